@@ -1,0 +1,12 @@
+pub mod Answering
+pub mod Floors
+pub mod Keeping
+pub mod TextLaws
+pub mod Powers
+pub mod Printing
+pub mod Rounding
+pub mod Runs
+pub mod Settled
+pub mod Shifting
+pub mod Spellings
+pub mod Taking

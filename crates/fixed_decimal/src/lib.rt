@@ -1,0 +1,22 @@
+//! Decimal numbers in texts: a text is read into a whole number of units of 10^-places, and such a whole number is printed.
+#![tactic(auto)]
+
+mod decimal;
+mod digits;
+mod error;
+mod laws;
+mod printer;
+mod reader;
+mod round;
+mod scale;
+mod split;
+
+pub use error::DecimalError;
+pub use laws::{
+    decimals_are_spice_numbers, numbers_are_words, printed_values_read_back, texts_have_one_value,
+};
+pub use printer::{print, print_down, print_up};
+pub use reader::{read, read_spice};
+
+#[cfg(test)]
+mod tests;

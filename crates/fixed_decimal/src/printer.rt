@@ -1,0 +1,136 @@
+//! Values printed as text.
+
+ghost use Rattle.std.specs.Prelude.{◌≡◌, ℕ, ◌+◌, ◌-◌, ◌^◌, ◌<◌, ◌≤◌, ◌<ℤ◌, ℤ, pos, take, ◌++◌, decimal, OnOk, OnErr, vec_len, replicate};
+ghost use Rattle.fixed_decimal.specs.Printed.{minus_text, padded, places_text, printed, IsRoundedDown, IsRoundedUp};
+
+use itoa::Buffer;
+use std::alloc::AllocError;
+
+/// Appends the text of `value` units of 10^-places: a `-` where it is negative, the whole part, and where there are places a point and exactly that many digits.
+///
+/// Error: want of memory, where `out` stays as it was.
+pub fn print(out: &mut Vec<u8>, value: i128, places: u32) -> Result<(), AllocError>
+    requires { places ≤ 30 }
+
+    ensures ok { OnOk result (out.new.items ≡ out.old.items ++ printed value places) }
+    ensures err { OnErr result (out.new.items ≡ out.old.items) }
+{
+    let start = out.len();
+    let answer = append(out, value, places);
+    if answer.is_err() {
+        out.truncate(start);
+    }
+    answer
+}
+
+/// Appends the text of the greatest number of `shown` places that is not above `value` units of 10^-places.
+///
+/// Error: want of memory, where `out` stays as it was.
+pub fn print_down(out: &mut Vec<u8>, value: i128, places: u32, shown: u32) -> Result<(), AllocError>
+    requires shown { shown ≤ places }
+    requires places { places ≤ 30 }
+
+    ensures ok { OnOk result ((q : ℤ) × IsRoundedDown value (10 ^ (places - shown)) q × (out.new.items ≡ out.old.items ++ printed q shown)) }
+    ensures err { OnErr result (out.new.items ≡ out.old.items) }
+{
+    print(out, rounded_down(value, 10i128.pow(places - shown)), shown)
+}
+
+/// Appends the text of the least number of `shown` places that is not below `value` units of 10^-places.
+///
+/// Error: want of memory, where `out` stays as it was.
+pub fn print_up(out: &mut Vec<u8>, value: i128, places: u32, shown: u32) -> Result<(), AllocError>
+    requires shown { shown ≤ places }
+    requires places { places ≤ 30 }
+
+    ensures ok { OnOk result ((q : ℤ) × IsRoundedUp value (10 ^ (places - shown)) q × (out.new.items ≡ out.old.items ++ printed q shown)) }
+    ensures err { OnErr result (out.new.items ≡ out.old.items) }
+{
+    print(out, rounded_up(value, 10i128.pow(places - shown)), shown)
+}
+
+/// The greatest whole number of units that is not above the value.
+fn rounded_down(value: i128, unit: i128) -> i128
+    requires { pos 0 <ℤ unit }
+    ensures { (u : ℕ) → unit ≡ pos u → IsRoundedDown value u result }
+{
+    value.div_euclid(unit)
+}
+
+/// The least whole number of units that is not below the value.
+fn rounded_up(value: i128, unit: i128) -> i128
+    requires { pos 0 <ℤ unit }
+    ensures { (u : ℕ) → unit ≡ pos u → IsRoundedUp value u result }
+{
+    let below = value.div_euclid(unit);
+    if value.rem_euclid(unit) == 0 {
+        below
+    } else {
+        below + 1
+    }
+}
+
+/// `print`, but at an error `out` may have grown.
+fn append(out: &mut Vec<u8>, value: i128, places: u32) -> Result<(), AllocError>
+    requires { places ≤ 30 }
+
+    ensures ok { OnOk result (out.new.items ≡ out.old.items ++ printed value places) }
+    ensures err { OnErr result (take (vec_len out.old) out.new.items ≡ out.old.items) }
+{
+    let magnitude = value.unsigned_abs();
+    let unit = 10u128.pow(places);
+    if value < 0 {
+        out.push(b'-')?;
+    }
+    append_number(out, magnitude / unit)?;
+    append_places(out, magnitude, places)
+}
+
+/// Appends the digits of `n`.
+fn append_number(out: &mut Vec<u8>, n: u128) -> Result<(), AllocError>
+    ensures ok { OnOk result (out.new.items ≡ out.old.items ++ decimal n) }
+    ensures err { OnErr result (out.new.items ≡ out.old.items) }
+{
+    let mut buffer = Buffer::new();
+    out.extend_from_slice(buffer.format(n).as_bytes())
+}
+
+/// Appends the point and the places of `n` units of 10^-places. At an error `out` may have grown.
+fn append_places(out: &mut Vec<u8>, n: u128, places: u32) -> Result<(), AllocError>
+    requires { places ≤ 30 }
+
+    ensures ok { OnOk result (out.new.items ≡ out.old.items ++ places_text n places) }
+    ensures err { OnErr result (take (vec_len out.old) out.new.items ≡ out.old.items) }
+{
+    if places == 0 {
+        return Ok(());
+    }
+    out.push(b'.')?;
+    append_padded(out, n % 10u128.pow(places), places)
+}
+
+/// Appends the digits of `n`, with zeros before them up to so many digits. At an error `out` may have grown.
+fn append_padded(out: &mut Vec<u8>, n: u128, count: u32) -> Result<(), AllocError>
+    requires { count ≤ 30 }
+
+    ensures ok { OnOk result (out.new.items ≡ out.old.items ++ padded count n) }
+    ensures err { OnErr result (take (vec_len out.old) out.new.items ≡ out.old.items) }
+{
+    let mut buffer = Buffer::new();
+    let digits = buffer.format(n).as_bytes();
+    append_zeros(out, (count as usize).saturating_sub(digits.len()))?;
+    out.extend_from_slice(digits)
+}
+
+/// The most zeros that stand before a number.
+const ZEROS: [u8; 30] = [b'0'; 30];
+
+/// Appends so many zeros.
+fn append_zeros(out: &mut Vec<u8>, count: usize) -> Result<(), AllocError>
+    requires { count ≤ 30 }
+
+    ensures ok { OnOk result (out.new.items ≡ out.old.items ++ replicate count 48) }
+    ensures err { OnErr result (out.new.items ≡ out.old.items) }
+{
+    out.extend_from_slice(&ZEROS[..count])
+}

@@ -1,0 +1,16 @@
+//! Rectangles with edges along the axes, and runs of unit cells along a line.
+#![tactic(auto)]
+
+mod direction;
+mod laws;
+mod rect;
+mod run;
+mod sweep;
+#[cfg(test)]
+mod tests;
+
+pub use direction::{Axis, Orient};
+pub use laws::maximal_runs_are_unique;
+pub use rect::{Rect, grown, meets, overlaps};
+pub use run::Run;
+pub use sweep::runs;

@@ -1,0 +1,56 @@
+-- The test of a certificate, which is two lists of one voltage for each node: a high one and a low one.
+use Rattle.std.specs.Prelude.{◌≡◌, ℕ, ◌<◌, ℤ, pos, ◌+ℤ◌, ◌-ℤ◌, ◌≤ℤ◌, List, Some, None, negsuc, ◌^◌, All}
+use Rattle.rounding.specs.Rounding.{floor_div, ceil_div}
+use Rattle.grid_net.specs.Network.{Network, low_load, high_load, pad_at, entry_of, FlowRule, outflow}
+use Rattle.grid_net.specs.Limits.{IsInLimit}
+
+-- the flows that leave a node, each rounded down, plus the least that may be drawn there
+abbrev pub high_sum : Network → (ℕ → ℤ) → ℕ → ℤ
+high_sum net high i = outflow floor_div net.resistors high i +ℤ low_load net i
+
+-- the flows that leave a node, each rounded up, plus the greatest that may be drawn there
+abbrev pub low_sum : Network → (ℕ → ℤ) → ℕ → ℤ
+low_sum net low i = outflow ceil_div net.resistors low i +ℤ high_load net i
+
+-- the sums of the high half: no pad is above its entry, and at each other node the sum is at least 1, so that more would leave the node than may be there
+pub record HighHolds (net : Network) (high : ℕ → ℤ) : Type 0 where
+  pub pads : (i : ℕ) (v : ℤ) → i < net.nodes → pad_at net i ≡ Some v → v ≤ℤ high i
+  pub sums : (i : ℕ) → i < net.nodes → pad_at net i ≡ None → pos 1 ≤ℤ high_sum net high i
+
+-- the sums of the low half: no pad is below its entry, and at each other node the sum is at most -1
+pub record LowHolds (net : Network) (low : ℕ → ℤ) : Type 0 where
+  pub pads : (i : ℕ) (v : ℤ) → i < net.nodes → pad_at net i ≡ Some v → low i ≤ℤ v
+  pub sums : (i : ℕ) → i < net.nodes → pad_at net i ≡ None → low_sum net low i ≤ℤ negsuc 0
+
+-- the greatest magnitude of a value of a certificate, in yoctovolts
+abbrev pub value_limit : ℕ
+value_limit = 10 ^ 37
+
+-- the greatest magnitude of a flow of a certificate, in femtoamperes
+abbrev pub flow_limit : ℕ
+flow_limit = 10 ^ 31
+
+-- the value of each node lies within a limit
+abbrev pub ValuesWithin : Network → ℕ → (ℕ → ℤ) → Type 0
+ValuesWithin net limit x = (i : ℕ) → i < net.nodes → IsInLimit limit (x i)
+
+-- the flow from end a to end b of each resistor, by a rule, lies within a limit
+abbrev pub FlowsWithin : FlowRule → Network → ℕ → (ℕ → ℤ) → Type 0
+FlowsWithin rule net limit x = All (λ r. IsInLimit limit (rule (x r.a -ℤ x r.b) r.ohms)) net.resistors
+
+-- all that the test of a certificate asks of the high list
+pub record IsHighHalf (net : Network) (high : ℕ → ℤ) : Type 0 where
+  pub values : ValuesWithin net value_limit high
+  pub flows : FlowsWithin floor_div net flow_limit high
+  pub holds : HighHolds net high
+
+-- all that it asks of the low list
+pub record IsLowHalf (net : Network) (low : ℕ → ℤ) : Type 0 where
+  pub values : ValuesWithin net value_limit low
+  pub flows : FlowsWithin ceil_div net flow_limit low
+  pub holds : LowHolds net low
+
+-- the two lists pass the test of a certificate
+pub record IsCertificate (net : Network) (high low : List ℤ) : Type 0 where
+  pub high_half : IsHighHalf net (entry_of high)
+  pub low_half : IsLowHalf net (entry_of low)

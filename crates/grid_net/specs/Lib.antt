@@ -1,0 +1,9 @@
+pub mod Search
+pub mod Network
+pub mod Limits
+pub mod Adding
+pub mod Building
+pub mod Around
+pub mod Kept
+pub mod Solution
+pub mod Certificate

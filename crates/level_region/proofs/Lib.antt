@@ -1,0 +1,4 @@
+pub mod Apart
+pub mod Hull
+pub mod Lent
+pub mod Written

@@ -1,0 +1,3 @@
+pub mod ByteOrderLemmas
+pub mod NumberingLemmas
+pub mod NumberedLemmas

@@ -1,0 +1,3 @@
+pub mod ByteOrder
+pub mod Numbering
+pub mod Numbered

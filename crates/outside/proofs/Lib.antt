@@ -1,0 +1,4 @@
+mod Held
+mod Listed
+mod Reading
+mod Sending

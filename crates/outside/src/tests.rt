@@ -1,0 +1,156 @@
+use crate::{
+    Argv, Files, MemFiles, MemSink, Name, ReadError, Refusal, SoundFiles, SoundSink, StdFiles,
+    StdSink, WriteError, read_whole, send,
+};
+use std::alloc::{AllocError, Global};
+use std::fmt::Display;
+use std::test::Fail;
+use std::{env, fs, io, process};
+
+// A file as the constructors take it.
+fn stored(alloc: Global, name: &str, bytes: &[u8]) -> Result<(Name, Vec<u8>), AllocError> {
+    Ok((Name::new(alloc, name.as_bytes())?, bytes.to_vec(alloc)?))
+}
+
+// Writes a file in two pieces and reads it whole.
+fn written_and_read<F: Files>(
+    alloc: Global,
+    files: &mut F,
+    name: &str,
+) -> Result<Vec<u8>, ReadError> {
+    files.create(name)?;
+    files.append(name, b"one ")?;
+    files.append(name, b"two")?;
+    read_whole(alloc, files, name, 7)
+}
+
+#[test]
+fn whole_file_at_its_limit(rt: HostRuntime) -> Result<(), Fail> {
+    let alloc = rt.alloc();
+    let held = vec![in alloc;
+        stored(alloc, "four", b"abcd")?,
+        stored(alloc, "five", b"abcde")?,
+    ]?;
+    let mut files = MemFiles::new(alloc, held, Vec::new(alloc))?;
+    for (name, want) in [
+        ("four", Ok(4)),
+        ("five", Err(ReadError::TooLong)),
+        ("six", Err(ReadError::ReadFault)),
+    ] {
+        let answer = read_whole(alloc, &mut files, name, 4).map(|bytes| bytes.len());
+        assert_eq!(rt; answer, want, "of {name}");
+    }
+    Ok(())
+}
+
+#[test]
+fn send_to_a_sink_whose_first_call_fails(rt: HostRuntime) -> Result<(), Fail> {
+    let mut out = MemSink::new(rt.alloc(), vec![in rt.alloc(); 1]?)?;
+    assert_eq!(rt; send(&mut out, b"certified"), Err(WriteError::WriteFault));
+    assert_eq!(rt; send(&mut out, b"certified"), Ok(()));
+    assert_eq!(rt; out.bytes(), b"certified".as_slice());
+    Ok(())
+}
+
+#[test]
+fn words_and_names_are_kept(rt: HostRuntime) -> Result<(), Fail> {
+    let name = Name::new(rt.alloc(), b"n\xff1")?;
+    assert_eq!(rt; name.bytes(), b"n\xff1".as_slice());
+    let mut words = Argv::new(rt.alloc())?;
+    words.push("check")?;
+    assert_eq!(rt; words.count(), 1);
+    assert_eq!(rt; words.word(0), "check");
+    Ok(())
+}
+
+#[test]
+fn files_in_memory(rt: HostRuntime) -> Result<(), Fail> {
+    let alloc = rt.alloc();
+    let failing = vec![in alloc; (Name::new(alloc, b"b")?, 2)]?;
+    let mut files = MemFiles::new(alloc, Vec::new(alloc), failing)?;
+    let bytes = written_and_read(alloc, &mut files, "a")?;
+    assert_eq!(rt; bytes.as_slice(), b"one two".as_slice());
+    assert_eq!(rt; files.bytes("a"), Some(b"one two".as_slice()));
+    let refused = written_and_read(alloc, &mut files, "b");
+    assert_eq!(rt; refused.err(), Some(ReadError::ReadFault));
+    assert_eq!(rt; files.bytes("b"), Some(b"".as_slice()));
+    Ok(())
+}
+
+#[test]
+fn sound_files_and_sink(rt: HostRuntime) -> Result<(), Fail> {
+    let alloc = rt.alloc();
+    let mut files = SoundFiles::new(alloc, vec![in alloc; stored(alloc, "a", b"xy")?]?)?;
+    assert!(rt; files.holds("a"));
+    assert_eq!(rt; read_whole(alloc, &mut files, "b", 2)?.len(), 0);
+    let bytes = written_and_read(alloc, &mut files, "b")?;
+    assert_eq!(rt; files.bytes("b"), Some(bytes.as_slice()));
+    let mut out = SoundSink::new(alloc)?;
+    send(&mut out, &bytes)?;
+    assert_eq!(rt; out.bytes(), b"one two".as_slice());
+    Ok(())
+}
+
+// Writes and reads a real file in a folder, twice, and takes the folder for a file.
+fn try_real_files(rt: HostRuntime, alloc: Global, folder: &str) -> Result<(Vec<u8>, bool), Fail> {
+    let mut files = StdFiles::new(alloc, rt);
+    let path = format!(in alloc; "{folder}/file")?;
+    written_and_read(alloc, &mut files, path.as_str())?;
+    let bytes = written_and_read(alloc, &mut files, path.as_str())?;
+    let refused = files.create(folder) == Err(Refusal::Failed)
+        && files.append(folder, b"x") == Err(Refusal::Failed)
+        && files.read_at(folder, 0, &mut [0]) == Err(Refusal::Failed);
+    Ok((bytes, refused))
+}
+
+#[test]
+fn real_files(rt: HostRuntime) -> Result<(), Fail> {
+    let alloc = rt.alloc();
+    let place = env::temp_dir(&rt)?;
+    let number = process::id(rt.process());
+    let folder = format!(in alloc; "{}/outside-{number}", place.display())?;
+    fs::create_dir(&rt, &folder)?;
+    let (bytes, refused) = try_real_files(rt, alloc, folder.as_str())?;
+    fs::remove_dir_all(&rt, &folder)?;
+    assert_eq!(rt; bytes.as_slice(), b"one two".as_slice());
+    assert!(rt; refused);
+    Ok(())
+}
+
+// An output that takes so many bytes of each piece, or fails.
+#[derive(Drop)]
+struct Output(Option<usize>);
+
+impl Print for Output {
+    fn print<D: Display + Drop>(&self, _value: D) -> io::Result<()> {
+        Ok(())
+    }
+
+    fn println<D: Display + Drop>(&self, _value: D) -> io::Result<()> {
+        Ok(())
+    }
+
+    fn write_all(&self, _bytes: &[u8]) -> io::Result<()> {
+        Ok(())
+    }
+
+    fn write_some(&self, bytes: &[u8]) -> io::Result<usize> {
+        match self.0 {
+            Some(count) => Ok(count.min(bytes.len())),
+            None => Err(io::ErrorKind::BrokenPipe.into()),
+        }
+    }
+}
+
+#[test]
+fn standard_output(rt: HostRuntime) -> Result<(), Fail> {
+    send(&mut StdSink::new(rt), b"written\n")?;
+    for (takes, want) in [
+        (Some(2), Ok(())),
+        (Some(0), Err(WriteError::WriteFault)),
+        (None, Err(WriteError::WriteFault)),
+    ] {
+        assert_eq!(rt; send(&mut StdSink::new(Output(takes)), b"written"), want);
+    }
+    Ok(())
+}

@@ -1,0 +1,151 @@
+// Whole texts in and out.
+ghost use Rattle.std.specs.Prelude.{◌≡◌, ◌≤◌, ◌<◌, ◌+◌, vec_len, length, IfOk, IfSome, OnOk, OnErr, OnSome, IsErrOf, take};
+ghost use Rattle.outside.specs.Counts.{Rose, NoneFalls};
+ghost use Rattle.outside.specs.Told.{WhereTold};
+ghost use Rattle.outside.specs.Files.{text_of};
+ghost use Rattle.outside.specs.Sink.{Adds, AddsSome};
+
+use crate::{Files, Refusal, Sink};
+use std::alloc::{AllocError, Global};
+use thiserror::Error;
+
+// As many bytes are read at once as were read so far, within these two.
+const SMALLEST_PIECE: usize = 1 << 16;
+
+const LARGEST_PIECE: usize = 1 << 22;
+
+/// Why a whole file was not read.
+#[derive(Clone, Copy, Debug, PartialEq, Eq, Error)]
+pub enum ReadError {
+    /// A read of the file failed.
+    #[error("the file cannot be read")]
+    ReadFault,
+    /// The file has more bytes than the limit.
+    #[error("the file is too long")]
+    TooLong,
+    /// There was no memory.
+    #[error("out of memory")]
+    Want,
+}
+
+/// Why bytes were not written.
+#[derive(Clone, Copy, Debug, PartialEq, Eq, Error)]
+pub enum WriteError {
+    /// A write failed.
+    #[error("the bytes cannot be written")]
+    WriteFault,
+    /// There was no memory.
+    #[error("out of memory")]
+    Want,
+}
+
+impl From<Refusal> for ReadError {
+    ghost use Rattle.std.specs.Prelude.{◌≡◌};
+    ghost use Rattle.outside.specs.Refused.{read_error_of};
+
+    ghost from_gives = { λ refusal e. e ≡ read_error_of refusal };
+
+    fn from(refusal: Refusal) -> ReadError {
+        match refusal {
+            Refusal::Failed => ReadError::ReadFault,
+            Refusal::Want => ReadError::Want,
+        }
+    }
+}
+
+impl From<AllocError> for ReadError {
+    ghost use Rattle.std.specs.Prelude.{◌≡◌};
+    ghost use Rattle.outside.specs.declared.whole.ReadError.TheVariants.{Want};
+
+    ghost from_gives = { λ _ e. e ≡ Want };
+
+    fn from(_: AllocError) -> ReadError {
+        ReadError::Want
+    }
+}
+
+impl From<Refusal> for WriteError {
+    ghost use Rattle.std.specs.Prelude.{◌≡◌};
+    ghost use Rattle.outside.specs.Refused.{write_error_of};
+
+    ghost from_gives = { λ refusal e. e ≡ write_error_of refusal };
+
+    fn from(refusal: Refusal) -> WriteError {
+        match refusal {
+            Refusal::Failed => WriteError::WriteFault,
+            Refusal::Want => WriteError::Want,
+        }
+    }
+}
+
+/// Reads a whole file of at most `limit` bytes.
+///
+/// `TooLong` where it has more, `ReadFault` where a read failed.
+/// A file that grows or shrinks between two reads gives the bytes that the reads gave.
+pub fn read_whole<F: Files>(
+    alloc: Global,
+    files: &mut F,
+    name: &str,
+    limit: u64,
+) -> Result<Vec<u8>, ReadError>
+    ensures text { IfOk result (λ bytes. IfSome (F.told files.old) (λ held. bytes.items ≡ text_of held name.now)) }
+    ensures within { IfOk result (λ bytes. vec_len bytes ≤ limit) }
+    ensures too_long { IsErrOf result ReadError.TooLong →
+        IfSome (F.told files.old) (λ held. limit < length (text_of held name.now)) }
+    ensures fault { IsErrOf result ReadError.ReadFault → Rose (F.faults files.old) (F.faults files.new) }
+    ensures fault_of_name { IsErrOf result ReadError.ReadFault →
+        OnSome (F.told files.old) (Rose (F.failed_reads files.old name.now) (F.failed_reads files.new name.now)) }
+
+    // No file changes, and no count falls.
+    ensures kept { F.told files.new ≡ F.told files.old }
+    ensures faults { F.faults files.old ≤ F.faults files.new }
+    ensures failed_reads { NoneFalls (F.failed_reads files.old) (F.failed_reads files.new) }
+    ensures failed_writes { NoneFalls (F.failed_writes files.old) (F.failed_writes files.new) }
+{
+    let mut bytes = Vec::new(alloc);
+    let mut filled = 0;
+    while filled as u64 <= limit {
+        make_room(&mut bytes, filled, limit)?;
+        let count = files.read_at(name, filled as u64, &mut bytes[filled..])?;
+        if count == 0 {
+            bytes.truncate(filled);
+            return Ok(bytes);
+        }
+        filled += count;
+    }
+    Err(ReadError::TooLong)
+}
+
+// Makes room for the next read where there is none, up to one byte more than the limit.
+fn make_room(bytes: &mut Vec<u8>, filled: usize, limit: u64) -> Result<(), AllocError>
+    requires filled { filled ≤ vec_len bytes.old }
+    requires below { filled ≤ limit }
+    requires within { vec_len bytes.old ≤ limit + 1 }
+    ensures room { OnOk result (filled < vec_len bytes.new) }
+    ensures within { OnOk result (vec_len bytes.new ≤ limit + 1) }
+    ensures kept { OnOk result (take filled bytes.new.items ≡ take filled bytes.old.items) }
+{
+    if filled == bytes.len() {
+        let left = limit - filled as u64;
+        let piece = filled.clamp(SMALLEST_PIECE, LARGEST_PIECE) as u64;
+        let more = left.min(piece - 1) as usize + 1;
+        bytes.resize(filled + more, 0)?;
+    }
+    Ok(())
+}
+
+/// Writes all the bytes.
+///
+/// `WriteFault` where a write failed. After a refusal the first bytes, perhaps none, were written.
+pub fn send<O: Sink>(out: &mut O, bytes: &[u8]) -> Result<(), WriteError>
+    ensures sent { OnOk result (WhereTold (Adds bytes.now) (O.told out.old) (O.told out.new)) }
+    ensures part { OnErr result (WhereTold (AddsSome bytes.now) (O.told out.old) (O.told out.new)) }
+    ensures fault { IsErrOf result WriteError.WriteFault → Rose (O.faults out.old) (O.faults out.new) }
+    ensures faults { O.faults out.old ≤ O.faults out.new }
+{
+    let mut sent = 0;
+    while sent < bytes.len() {
+        sent += out.write(&bytes[sent..])?;
+    }
+    Ok(())
+}

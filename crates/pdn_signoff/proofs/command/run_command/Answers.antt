@@ -1,0 +1,10 @@
+use Rattle.std.proofs.Common.{◌≡◌, ◌⊎◌, inl, inr, refl}
+use Rattle.pdn_signoff.specs.declared.answer.Answer.TheVariants.{Want}
+use Rattle.pdn_signoff.proofs.command.run_command.Goals as goal
+
+pub returns-clause-answer : goal.returns-clause-answer
+returns-clause-answer g c =
+    elim c.tell.ensures [
+      | inl told ↦ (c.answer_of-answer.result, c.answer_of-answer.ensures.cause, told)
+      | inr want ↦ (Want, inl (inl refl), want)
+    ]

@@ -1,0 +1,148 @@
+//! The top call: from the words and the files to the exit status and the line.
+ghost use Rattle.std.specs.Prelude.{◌≡◌, ◌≢◌, ◌⊎◌, ℕ, ℤ, List, Some, IfSome};
+ghost use Rattle.outside.specs.Counts.{Rose};
+ghost use Rattle.outside.specs.Files.{Holdings};
+ghost use Rattle.grid_net.specs.Network.{Network};
+ghost use Rattle.grid_net.specs.Certificate.{IsCertificate};
+ghost use Rattle.pdn_signoff.specs.Words.{IsUsage};
+ghost use Rattle.pdn_signoff.specs.declared.answer.Answer.TheVariants.{Want};
+ghost use Rattle.pdn_signoff.specs.Check.{FilesThen, IsCause, Ends, PrintEnds, IsPlainCheck, HasCertificate, IsBetween};
+
+use crate::answer::Answer;
+use crate::check::check;
+use crate::words::{self, Command, WordsError};
+use bound_check::{maximum_principle, no_failing_test};
+use outside::{Argv, Files, Sink, WriteError, send};
+use plain_certificate::one_certificate;
+use plain_netlist::one_network;
+use std::alloc::Global;
+
+/// The exit status where the line of the answer could not be written.
+const UNWRITTEN: u8 = 3;
+
+/// The exit status where memory ran out.
+const WANT: u8 = 10;
+
+/// Runs the command that the words name, over the files, prints its one line to `out` and answers the exit status.
+///
+/// | Status | Line | When |
+/// |---|---|---|
+/// | 0 | `certified <n> nodes` | the certificate holds on the netlist |
+/// | 2 | `pdn: Usage` | the words are those of no command |
+/// | 3 | `pdn: ReadFault <file>` | the file could not be read |
+/// | 3 | none, or a part of it | the line could not be written |
+/// | 4 | `pdn: TooLong <file>` | the file has more than 2^28 bytes |
+/// | 4 | `pdn: <file>: NotPlain` | its text is not plain |
+/// | 9 | `pdn: NotCertified <node> <side> <found>` | the certificate fails, first by this test |
+/// | 10 | `pdn: Want`, or a part of a line | memory ran out |
+pub fn run<F: Files, O: Sink>(alloc: Global, words: &Argv, files: &mut F, out: &mut O) -> u8
+    // The run comes to an answer that has its cause, and ends with it.
+    ensures answer { (answer : Answer)
+        × IsCause words.now
+        (record { told = F.told files.old; faults = F.faults files.old; failed_reads = F.failed_reads files.old })
+        (record { told = F.told files.new; faults = F.faults files.new; failed_reads = F.failed_reads files.new }) answer
+        × Ends result
+        (record { told = O.told out.old; faults = O.faults out.old })
+        (record { told = O.told out.new; faults = O.faults out.new }) answer }
+
+    // No file changes.
+    ensures kept { F.told files.new ≡ F.told files.old }
+
+    // What is refused as usage is that, and what is usage is refused.
+    ensures usage { result ≡ 2 → IsUsage words.now }
+    ensures refused { IsUsage words.now → (result ≡ 2) ⊎ ((result ≡ 3) ⊎ (result ≡ 10)) }
+
+    // The status 0 says that the certificate holds on the netlist.
+    ensures certified { result ≡ 0 → IfSome (F.told files.old) (λ held. HasCertificate words.now held) }
+
+    // Plain texts are judged, where no fault comes and memory lasts: 0 where the certificate holds, 9 where it does not.
+    ensures judged { (held : Holdings) (names : List (List ℕ)) (net : Network) (high low : List ℤ)
+        → F.told files.old ≡ Some held → IsPlainCheck words.now held names net high low
+        → ¬ Rose (F.faults files.old) (F.faults files.new) → ¬ Rose (O.faults out.old) (O.faults out.new)
+        → ((result ≡ 0) × IsCertificate net high low) ⊎ (((result ≡ 9) × ¬ IsCertificate net high low) ⊎ (result ≡ 10)) }
+
+    // After the status 0 every solution of the netlist lies between the certificate's two lists, at each node.
+    ensures bounded { (held : Holdings) (names : List (List ℕ)) (net : Network) (high low : List ℤ)
+        → F.told files.old ≡ Some held → IsPlainCheck words.now held names net high low → result ≡ 0
+        → IsBetween net high low }
+{
+    one_network();
+    one_certificate();
+    no_failing_test();
+    maximum_principle();
+    run_command(alloc, words, files, out)
+}
+
+/// Comes to an answer, and tells it.
+fn run_command<F: Files, O: Sink>(alloc: Global, words: &Argv, files: &mut F, out: &mut O) -> u8
+    ensures answer { (answer : Answer)
+        × IsCause words.now
+        (record { told = F.told files.old; faults = F.faults files.old; failed_reads = F.failed_reads files.old })
+        (record { told = F.told files.new; faults = F.faults files.new; failed_reads = F.failed_reads files.new }) answer
+        × Ends result
+        (record { told = O.told out.old; faults = O.faults out.old })
+        (record { told = O.told out.new; faults = O.faults out.new }) answer }
+    ensures kept { F.told files.new ≡ F.told files.old }
+{
+    let answer = answer_of(alloc, words, files);
+    tell(alloc, &answer, out)
+}
+
+/// The answer to the words.
+fn answer_of<F: Files>(alloc: Global, words: &Argv, files: &mut F) -> Answer
+    ensures cause { IsCause words.now
+        (record { told = F.told files.old; faults = F.faults files.old; failed_reads = F.failed_reads files.old })
+        (record { told = F.told files.new; faults = F.faults files.new; failed_reads = F.failed_reads files.new }) result }
+    ensures kept { F.told files.new ≡ F.told files.old }
+{
+    match words::read(alloc, words) {
+        Ok(
+            Command::Check {
+                netlist,
+                certificate,
+            },
+        ) => check(alloc, files, netlist.as_str(), certificate.as_str()),
+        Err(WordsError::Usage) => Answer::Usage,
+        Err(WordsError::Want) => Answer::Want,
+    }
+}
+
+/// Prints the line of the answer, or, where there is no memory for it, that of want of memory. Answers the exit status.
+fn tell<O: Sink>(alloc: Global, answer: &Answer, out: &mut O) -> u8
+    ensures { Ends result
+        (record { told = O.told out.old; faults = O.faults out.old })
+        (record { told = O.told out.new; faults = O.faults out.new }) answer.now
+        ⊎ Ends result
+        (record { told = O.told out.old; faults = O.faults out.old })
+        (record { told = O.told out.new; faults = O.faults out.new }) Answer.Want }
+{
+    match answer.line(alloc) {
+        Ok(line) => print(out, &line, answer.status()),
+        Err(_) => print(out, b"pdn: Want\n", WANT),
+    }
+}
+
+/// Writes the line, and answers this status, or that of a line that was not written.
+fn print<O: Sink>(out: &mut O, line: &[u8], status: u8) -> u8
+    ensures { PrintEnds result status line.now
+        (record { told = O.told out.old; faults = O.faults out.old })
+        (record { told = O.told out.new; faults = O.faults out.new }) }
+{
+    match send(out, line) {
+        Ok(()) => status,
+        Err(WriteError::WriteFault) => UNWRITTEN,
+        Err(WriteError::Want) => WANT,
+    }
+}
+
+/// Where the files tell what they hold and no read failed, one answer alone, want of memory aside, has its cause:
+/// so each of them comes exactly where its cause holds.
+pub fn one_answer_has_its_cause()
+    ensures { (words : List (List ℕ)) (before after : FilesThen) (held : Holdings) (a b : Answer) → before.told ≡ Some held
+        → ¬ Rose before.faults after.faults → IsCause words before after a → IsCause words before after b
+        → a ≢ Want → b ≢ Want → a ≡ b }
+{
+    one_network();
+    one_certificate();
+    no_failing_test();
+}

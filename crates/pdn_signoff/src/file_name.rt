@@ -1,0 +1,34 @@
+//! The names of files.
+ghost use Rattle.std.specs.Prelude.{◌≡◌, ℕ, List, IfOk, string_bytes};
+
+use std::alloc::{AllocError, Global};
+use std::marker::Model;
+
+/// The name of a file, as it stands in the words. Contracts see its bytes.
+#[derive(Drop)]
+pub struct FileName {
+    text: String,
+}
+
+impl Model for FileName {
+    ghost Value = { List ℕ };
+
+    ghost view = { λ name. string_bytes name.text };
+}
+
+impl FileName {
+    /// A copy of the word.
+    pub fn new(alloc: Global, word: &str) -> Result<FileName, AllocError>
+        ensures { IfOk result (λ name. name ≡ word.now) }
+    {
+        let text = String::from_str(alloc, word)?;
+        Ok(FileName { text })
+    }
+
+    /// The name as text.
+    pub fn as_str(&self) -> &str
+        ensures { result.now ≡ self.now }
+    {
+        self.text.as_str()
+    }
+}

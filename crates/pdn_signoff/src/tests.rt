@@ -1,0 +1,244 @@
+//! Runs of the top call over files and a sink in memory.
+use crate::run;
+use outside::{Argv, MemFiles, MemSink, Name};
+use std::alloc::{AllocError, Global};
+use std::process::Abort;
+use std::test::Fail;
+
+/// One ohm from a pad of 1 V to a node that draws 1 mA.
+const NETLIST: &[u8] = b"R1 p n 1\nV1 p 0 1\nI1 n 0 1m\n.end\n";
+
+/// The least strict bounds at the node.
+const CERTIFICATE: &[u8] =
+    b"pdn certificate 1\nn 999000000000001000000000 998999999999999000000000\np 1000000000000000000000000 1000000000000000000000000\nend\n";
+
+/// The words of `check` over the files `net` and `cert`, with bars between them.
+const WORDS: &str = "check|--netlist|net|--certificate|cert";
+
+fn argv(alloc: Global, words: &str) -> Result<Argv, AllocError> {
+    let mut argv = Argv::new(alloc)?;
+    for word in words.split('|') {
+        argv.push(word)?;
+    }
+    Ok(argv)
+}
+
+fn files(
+    alloc: Global,
+    netlist: &[u8],
+    certificate: &[u8],
+) -> Result<Vec<(Name, Vec<u8>)>, AllocError> {
+    let mut files = Vec::new(alloc);
+    files.push((Name::new(alloc, b"net")?, Vec::from_slice(alloc, netlist)?))?;
+    files.push((
+        Name::new(alloc, b"cert")?,
+        Vec::from_slice(alloc, certificate)?,
+    ))?;
+    Ok(files)
+}
+
+/// What a run over two files answers and prints, where this call on the named file and this call on the sink fail.
+fn told(
+    rt: &(impl Abort + AllocGlobal),
+    words: &str,
+    files: Vec<(Name, Vec<u8>)>,
+    failing: (&str, u64),
+    failing_write: u64,
+    status: u8,
+    line: &[u8],
+) -> Result<(), AllocError> {
+    let alloc = rt.alloc();
+    let failing = vec![in alloc; (Name::new(alloc, failing.0.as_bytes())?, failing.1)]?;
+    let mut files = MemFiles::new(alloc, files, failing)?;
+    let mut out = MemSink::new(alloc, vec![in alloc; failing_write]?)?;
+    let words = argv(alloc, words)?;
+    let found = run(alloc, &words, &mut files, &mut out);
+    assert_eq!(rt; found, status);
+    assert_eq!(rt; out.bytes(), line);
+    Ok(())
+}
+
+/// What a run over two sound files answers and prints.
+fn judged(
+    rt: &(impl Abort + AllocGlobal),
+    netlist: &[u8],
+    certificate: &[u8],
+    status: u8,
+    line: &[u8],
+) -> Result<(), AllocError> {
+    told(
+        rt,
+        WORDS,
+        files(rt.alloc(), netlist, certificate)?,
+        ("", 0),
+        0,
+        status,
+        line,
+    )
+}
+
+/// What a run over the first row's files answers, where this call on the named file and this call on the sink fail.
+fn failing(
+    rt: &(impl Abort + AllocGlobal),
+    name: &str,
+    call: u64,
+    failing_write: u64,
+    status: u8,
+    line: &[u8],
+) -> Result<(), AllocError> {
+    told(
+        rt,
+        WORDS,
+        files(rt.alloc(), NETLIST, CERTIFICATE)?,
+        (name, call),
+        failing_write,
+        status,
+        line,
+    )
+}
+
+#[test]
+fn least_strict_bounds_pass(rt: HostRuntime) -> Result<(), Fail> {
+    judged(&rt, NETLIST, CERTIFICATE, 0, b"certified 2 nodes\n")?;
+    Ok(())
+}
+
+#[test]
+fn zero_sum_is_refused(rt: HostRuntime) -> Result<(), Fail> {
+    let certificate =
+        b"pdn certificate 1\nn 999000000000000000000000 998999999999999000000000\np 1000000000000000000000000 1000000000000000000000000\nend\n";
+    judged(
+        &rt,
+        NETLIST,
+        certificate,
+        9,
+        b"pdn: NotCertified n High 0\n",
+    )?;
+    Ok(())
+}
+
+#[test]
+fn pad_below_its_voltage(rt: HostRuntime) -> Result<(), Fail> {
+    let certificate =
+        b"pdn certificate 1\nn 999000000000001000000000 998999999999999000000000\np 999999999999999999999999 1000000000000000000000000\nend\n";
+    judged(
+        &rt,
+        NETLIST,
+        certificate,
+        9,
+        b"pdn: NotCertified p High -1\n",
+    )?;
+    Ok(())
+}
+
+#[test]
+fn empty_network(rt: HostRuntime) -> Result<(), Fail> {
+    judged(
+        &rt,
+        b".end\n",
+        b"pdn certificate 1\nend\n",
+        0,
+        b"certified 0 nodes\n",
+    )?;
+    judged(
+        &rt,
+        b"",
+        b"pdn certificate 1\nend\n",
+        4,
+        b"pdn: net: NotPlain\n",
+    )?;
+    judged(&rt, b".end\n", b"", 4, b"pdn: cert: NotPlain\n")?;
+    judged(&rt, b"", b"", 4, b"pdn: net: NotPlain\n")?;
+    Ok(())
+}
+
+#[test]
+fn usage(rt: HostRuntime) -> Result<(), Fail> {
+    let table = [
+        "check",
+        "",
+        "solve|--netlist|net|--certificate|cert",
+        "check|--certificate|cert|--netlist|net",
+        "check|--netlist||--certificate|cert",
+        "check|--netlist|net|--certificate|-",
+        "check|--netlist|net|--certificate|cert|more",
+        "Check|--netlist|net|--certificate|cert",
+    ];
+    for words in table {
+        told(
+            &rt,
+            words,
+            files(rt.alloc(), NETLIST, CERTIFICATE)?,
+            ("", 0),
+            0,
+            2,
+            b"pdn: Usage\n",
+        )?;
+    }
+    Ok(())
+}
+
+/// Each call on each file fails in turn, and each call on the sink.
+#[test]
+fn faults_are_told(rt: HostRuntime) -> Result<(), Fail> {
+    failing(&rt, "net", 1, 0, 3, b"pdn: ReadFault net\n")?;
+    failing(&rt, "net", 2, 0, 3, b"pdn: ReadFault net\n")?;
+    failing(&rt, "net", 3, 0, 0, b"certified 2 nodes\n")?;
+    failing(&rt, "cert", 1, 0, 3, b"pdn: ReadFault cert\n")?;
+    failing(&rt, "cert", 2, 0, 3, b"pdn: ReadFault cert\n")?;
+    failing(&rt, "cert", 3, 0, 0, b"certified 2 nodes\n")?;
+    failing(&rt, "", 0, 1, 3, b"")?;
+    failing(&rt, "net", 1, 1, 3, b"")?;
+    failing(&rt, "", 0, 2, 0, b"certified 2 nodes\n")?;
+    let words = "check|--netlist|nothing|--certificate|cert";
+    told(
+        &rt,
+        words,
+        files(rt.alloc(), b"", b"")?,
+        ("", 0),
+        0,
+        3,
+        b"pdn: ReadFault nothing\n",
+    )?;
+    Ok(())
+}
+
+/// After a load that is one unit smaller the least strict high list no longer holds.
+#[test]
+fn smaller_load_is_refused(rt: HostRuntime) -> Result<(), Fail> {
+    judged(
+        &rt,
+        b"R1 p n 1\nV1 p 0 1\nI1 n 0 999999999999f\n.end\n",
+        CERTIFICATE,
+        9,
+        b"pdn: NotCertified n High 0\n",
+    )?;
+    Ok(())
+}
+
+/// One certificate does for a name that is also the last word of a certificate, and an unsupplied node has none.
+#[test]
+fn names_and_nodes(rt: HostRuntime) -> Result<(), Fail> {
+    judged(
+        &rt,
+        b"V1 end 0 1\n.end\n",
+        b"pdn certificate 1\nend 1000000000000000000000000 1000000000000000000000000\nend\n",
+        0,
+        b"certified 1 nodes\n",
+    )?;
+    judged(
+        &rt,
+        b"I1 a 0 1\n.end\n",
+        b"pdn certificate 1\na 0 0\nend\n",
+        9,
+        b"pdn: NotCertified a Low 1000000000000000\n",
+    )?;
+    judged(
+        &rt,
+        NETLIST,
+        b"pdn certificate 1\np 1 1\nn 1 1\nend\n",
+        4,
+        b"pdn: cert: NotPlain\n",
+    )?;
+    Ok(())
+}

@@ -1,0 +1,5 @@
+pub mod Digits
+pub mod Signs
+pub mod Rows
+pub mod Bodies
+pub mod Reading

@@ -1,0 +1,7 @@
+use Rattle.std.proofs.Common.{drop, map}
+use Rattle.plain_certificate.proofs.Reading.{HasRead}
+use Rattle.plain_certificate.proofs.certificate.read_plain_certificate.Given as goal
+
+abbrev pub invariant-loop-name : goal.invariant-loop-name
+invariant-loop-name l =
+    HasRead l.fn.text (map (λ n. n.now) l.names) l.lists.high.items l.lists.low.items (map (λ n. n.now) (drop l.name-index l.names)) l.rest

@@ -1,0 +1,13 @@
+pub mod CutLemmas
+pub mod CardLemmas
+pub mod NameLemmas
+pub mod LawLemmas
+pub mod TextLemmas
+pub mod NumberLemmas
+pub mod EntryLemmas
+pub mod NoNetworkLemmas
+pub mod LoadLemmas
+pub mod ReadLemmas
+pub mod MoveLemmas
+pub mod WholeLemmas
+pub mod ErrorLemmas

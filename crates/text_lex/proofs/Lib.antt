@@ -1,0 +1,11 @@
+pub mod Finding
+pub mod Pieces
+pub mod Complete
+pub mod Made
+pub mod Counting
+pub mod Searching
+pub mod Starts
+pub mod Steps
+pub mod Nexts
+pub mod Modes
+pub mod Places

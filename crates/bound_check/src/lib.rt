@@ -16,3 +16,6 @@ pub use law::{
     a_refusal_is_true, a_search_goes_up, maximum_principle, no_failing_test, worked_example,
     worked_refusals,
 };
+
+#[cfg(test)]
+mod tests;

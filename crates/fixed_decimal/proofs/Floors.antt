@@ -1,5 +1,5 @@
 -- Rounding to whole units, down and up.
-use Rattle.std.proofs.Common.{◌≡◌, ℕ, zero, suc, ◌+◌, ◌-◌, ◌*◌, ◌/◌, ◌%◌, ◌<◌, ◌≤◌, ℤ, pos, negsuc, ◌+ℤ◌, ◌-ℤ◌, ◌*ℤ◌, ◌≤ℤ◌, ◌<ℤ◌, arith, ap, sym, ◌∙◌, mul-le-mul_left, div-add-mod', mod-lt, refl}
+use Rattle.std.proofs.Common.{◌≡◌, ℕ, ◌-◌, ◌*◌, ◌%◌, ◌<◌, ℤ, pos, negsuc, ◌+ℤ◌, ◌*ℤ◌, ◌≤ℤ◌, ◌<ℤ◌, arith, ap, sym, ◌∙◌, mul-le-mul_left, div-add-mod', mod-lt, refl}
 use Rattle.std.specs.Int.{int_div_euclid, int_rem_euclid}
 use Rattle.std.proofs.lemmas.Int.{ints, by_lt_z}
 use borrow.Author.Differences.{le_out, lt_out, sum_is_lem}
@@ -64,3 +64,9 @@ rounded_up_next z u some other =
           let rest : q.0 ≡ 0 = omega (arith, ints, is, fewer, h) in
           other (q.1 ∙ ap pos rest)));
     }
+
+pub rounded_down_unique : (z : ℤ) (u : ℕ) (q r : ℤ) → IsRoundedDown z u q → IsRoundedDown z u r → q ≡ r
+rounded_down_unique z u q r a b = omega (arith, ints, b.greatest q a.reached, a.greatest r b.reached)
+
+pub rounded_up_unique : (z : ℤ) (u : ℕ) (q r : ℤ) → IsRoundedUp z u q → IsRoundedUp z u r → q ≡ r
+rounded_up_unique z u q r a b = omega (arith, ints, a.least r b.reaches, b.least q a.reaches)

@@ -2,6 +2,7 @@ pub mod Answering
 pub mod Floors
 pub mod Keeping
 pub mod TextLaws
+pub mod Longest
 pub mod Powers
 pub mod Printing
 pub mod Rounding

@@ -1,5 +1,5 @@
 -- Texts that are appended piece by piece.
-use Rattle.std.proofs.Common.{◌≡◌, ℕ, ◌+◌, ◌-◌, ◌<◌, ◌≤◌, List, [], ◌∷◌, ◌++◌, length, take, arith, ap, sym, ◌∙◌, refl, subst, Result, Ok, Err, append_assoc}
+use Rattle.std.proofs.Common.{◌≡◌, ℕ, ◌≤◌, List, ◌++◌, length, take, arith, ap, sym, ◌∙◌, refl, subst, Result, Ok, Err}
 use Rattle.std.specs.Prelude.{OnOk, OnErr, is_ok, if◌then◌else◌}
 use Rattle.std.proofs.lemmas.List.{take-take, take_at, length-append}
 

@@ -55,19 +55,19 @@ vanishing_no_range n places limit a b =
     let above = b.above in
     omega arith
 
-value_back : (n : Number) (places limit : ℕ) (r : Result ℤ DecimalError) (v : ℤ) → Answers n places limit r → IsRead n places limit v → r ≡ Ok v
+pub value_back : (n : Number) (places limit : ℕ) (r : Result ℤ DecimalError) (v : ℤ) → Answers n places limit r → IsRead n places limit v → r ≡ Ok v
 value_back n places limit (Ok w) v a b = ap Ok (value_unique n places w v a.value b.value)
 value_back n places limit (Err NotNumber) v a b = absurd a
 value_back n places limit (Err ItVanishes) v a b = absurd (read_no_vanishing n places limit v b a)
 value_back n places limit (Err Range) v a b = absurd (read_no_range n places limit v b a)
 
-vanishes_back : (n : Number) (places limit : ℕ) (r : Result ℤ DecimalError) → Answers n places limit r → Vanishes n places → r ≡ Err ItVanishes
+pub vanishes_back : (n : Number) (places limit : ℕ) (r : Result ℤ DecimalError) → Answers n places limit r → Vanishes n places → r ≡ Err ItVanishes
 vanishes_back n places limit (Ok w) a b = absurd (read_no_vanishing n places limit w a b)
 vanishes_back n places limit (Err NotNumber) a b = absurd a
 vanishes_back n places limit (Err ItVanishes) a b = refl
 vanishes_back n places limit (Err Range) a b = absurd (vanishing_no_range n places limit b a)
 
-range_back : (n : Number) (places limit : ℕ) (r : Result ℤ DecimalError) → Answers n places limit r → IsAbove n places limit → r ≡ Err Range
+pub range_back : (n : Number) (places limit : ℕ) (r : Result ℤ DecimalError) → Answers n places limit r → IsAbove n places limit → r ≡ Err Range
 range_back n places limit (Ok w) a b = absurd (read_no_range n places limit w a b)
 range_back n places limit (Err NotNumber) a b = absurd a
 range_back n places limit (Err ItVanishes) a b = absurd (vanishing_no_range n places limit a b)

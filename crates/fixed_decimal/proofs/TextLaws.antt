@@ -1,9 +1,8 @@
 -- The laws of the definitions.
-use Rattle.std.proofs.Common.{◌≡◌, ℕ, zero, suc, ◌+◌, ◌-◌, ◌*◌, ◌/◌, ◌%◌, ◌^◌, ◌<◌, ◌≤◌, Bool, true, false, List, [], ◌∷◌, ◌++◌, length, replicate, ℤ, pos, negsuc, neg_ℤ, All, Option, Some, None, arith, ap, sym, ◌∙◌, refl, subst, inl, inr, div-add-mod', mod-lt, decimal, if◌then◌else◌, codes, IfSome}
+use Rattle.std.proofs.Common.{◌≡◌, ℕ, zero, suc, ◌+◌, ◌-◌, ◌*◌, ◌/◌, ◌%◌, ◌^◌, ◌<◌, ◌≤◌, Bool, true, false, List, [], ◌∷◌, ◌++◌, length, replicate, ℤ, pos, negsuc, All, Option, Some, None, arith, ap, sym, ◌∙◌, refl, subst, inl, inr, div-add-mod', mod-lt, decimal, if◌then◌else◌, codes, IfSome, Result, Ok, Err}
 use Rattle.std.specs.Prelude.{unsigned_abs, int_lt, ◌==◌}
 use Rattle.std.specs.Char.{digit_value, IsAsciiAlphabetic, IsAsciiDigit}
 use Rattle.std.specs.Str.Parse.{AllDigits, IsNumeral, digits_value, digits_value_after}
-use Rattle.std.proofs.lemmas.Bool.{cases_eq}
 use Rattle.std.proofs.lemmas.Bool.Decides.{nat_tests}
 use Rattle.std.proofs.lemmas.Int.{ints}
 use Rattle.std.proofs.lemmas.Fmt.{decimal_is_IsNumeral_wide, length-decimal-le_wide}
@@ -11,14 +10,17 @@ use Rattle.std.proofs.lemmas.List.{append-nil, length-append, length-replicate}
 use Rattle.std.proofs.lemmas.List.Elements.{All-nil, All-cons, All-append, All-head, All-tail}
 use Rattle.std.proofs.lemmas.Str.Parse.{digit_from_value}
 use Rattle.std.proofs.Math.Nat.{pow-suc, mul-le-mul_left}
-use Rattle.fixed_decimal.specs.Number.{Sign, absent, plus, minus, sign_text, is_minus, Exponent, exponent_text, letter_text, fraction_text, fraction_digits, Number, Spelling, IsSpelling, text_of, number_of, IsDecimal}
+use Rattle.fixed_decimal.specs.Number.{Sign, absent, plus, minus, sign_text, is_minus, Exponent, exponent_text, letter_text, fraction_text, fraction_digits, Number, Spelling, text_of, number_of, IsDecimal}
 use Rattle.fixed_decimal.specs.Printed.{minus_text, padded, places_text, printed}
 use Rattle.fixed_decimal.specs.Spice.{IsSpice, scaled, scale_of}
-use Rattle.fixed_decimal.specs.Value.{IsNearest, IsMagnitude, IsRead, IsValue, signed, DecimalReads, SpiceReads}
-use Rattle.fixed_decimal.proofs.Powers.{ten_pos, ten_add}
+use Rattle.fixed_decimal.specs.Value.{IsNearest, IsMagnitude, IsRead, IsValue, IsAbove, Vanishes, signed, DecimalReads, SpiceReads, DecimalValue, SpiceValue, IsSpiceNumber, IsAnswer}
+use Rattle.fixed_decimal.specs.Kept.{Answers}
+use Rattle.fixed_decimal.specs.declared.error.DecimalError.{DecimalError}
+use Rattle.fixed_decimal.specs.declared.error.DecimalError.TheVariants.{NotNumber, Vanishes as VanishesError, Range}
+use Rattle.fixed_decimal.proofs.Powers.{ten_pos}
 use Rattle.fixed_decimal.proofs.Rounding.{nearest_whole}
 use Rattle.fixed_decimal.proofs.Runs.{value_after_append}
-use Rattle.fixed_decimal.proofs.Settled.{ends_nothing, ends_letters, value_unique}
+use Rattle.fixed_decimal.proofs.Settled.{ends_nothing, ends_letters, value_unique, value_back, vanishes_back, range_back}
 use Rattle.fixed_decimal.proofs.Spellings.{spelling_unique}
 
 -- ---- one value
@@ -32,15 +34,39 @@ spice_unique text m n a b =
     let same = spelling_unique a.spelling b.spelling a.letters b.letters a.form b.form (ends_letters a.spelling a.letters a.scale.only_letters) (ends_letters b.spelling b.letters b.scale.only_letters) (sym a.is ∙ b.is) in
     a.value ∙ (ap (λ s. scaled (number_of s) (scale_of a.letters)) same.0 ∙ (ap (λ l. scaled (number_of b.spelling) (scale_of l)) same.1 ∙ sym b.value))
 
+pub decimal_value_once : (places : ℕ) (text : List ℕ) (v w : ℤ) → DecimalValue places text v → DecimalValue places text w → v ≡ w
+decimal_value_once places text v w a b =
+    let P : Number → Type 0 = λ n. IsValue n places w in
+    value_unique a.0 places v w a.2 (subst P (decimal_unique text b.0 a.0 b.1 a.1) b.2)
+
+pub spice_value_once : (places : ℕ) (text : List ℕ) (v w : ℤ) → SpiceValue places text v → SpiceValue places text w → v ≡ w
+spice_value_once places text v w a b =
+    let P : Number → Type 0 = λ n. IsValue n places w in
+    value_unique a.0 places v w a.2 (subst P (spice_unique text b.0 a.0 b.1 a.1) b.2)
+
 pub decimal_reads_once : (places limit : ℕ) (text : List ℕ) (v w : ℤ) → DecimalReads places limit text v → DecimalReads places limit text w → v ≡ w
-decimal_reads_once places limit text v w a b =
-    let P : Number → Type 0 = λ n. IsRead n places limit w in
-    value_unique a.0 places v w a.2.value (subst P (decimal_unique text b.0 a.0 b.1 a.1) b.2).value
+decimal_reads_once places limit text v w a b = decimal_value_once places text v w (a.0, a.1, a.2.value) (b.0, b.1, b.2.value)
 
 pub spice_reads_once : (places limit : ℕ) (text : List ℕ) (v w : ℤ) → SpiceReads places limit text v → SpiceReads places limit text w → v ≡ w
-spice_reads_once places limit text v w a b =
-    let P : Number → Type 0 = λ n. IsRead n places limit w in
-    value_unique a.0 places v w a.2.value (subst P (spice_unique text b.0 a.0 b.1 a.1) b.2).value
+spice_reads_once places limit text v w a b = spice_value_once places text v w (a.0, a.1, a.2.value) (b.0, b.1, b.2.value)
+
+-- ---- one answer
+-- an answer to a text that stands for a number is the answer to that number
+of_number : (form : List ℕ → Number → Type 0) (places limit : ℕ) (text : List ℕ) (n : Number) → form text n → ((m : Number) → form text m → m ≡ n) → (r : Result ℤ DecimalError) → IsAnswer form places limit text r → Answers n places limit r
+of_number form places limit text n is only (Ok v) a = subst (λ m. IsRead m places limit v) (only a.0 a.1) a.2
+of_number form places limit text n is only (Err NotNumber) a = absurd (a n is)
+of_number form places limit text n is only (Err VanishesError) a = subst (λ m. Vanishes m places) (only a.0 a.1) a.2
+of_number form places limit text n is only (Err Range) a = subst (λ m. IsAbove m places limit) (only a.0 a.1) a.2
+
+module _ (form : List ℕ → Number → Type 0) (places limit : ℕ) (text : List ℕ) (unique : (m n : Number) → form text m → form text n → m ≡ n) where
+  pub answer_once : (r s : Result ℤ DecimalError) → IsAnswer form places limit text r → IsAnswer form places limit text s → r ≡ s
+  answer_once (Ok v) s a b = sym (value_back a.0 places limit s v (of_number form places limit text a.0 a.1 (λ m f. unique m a.0 f a.1) s b) a.2)
+  answer_once (Err VanishesError) s a b = sym (vanishes_back a.0 places limit s (of_number form places limit text a.0 a.1 (λ m f. unique m a.0 f a.1) s b) a.2)
+  answer_once (Err Range) s a b = sym (range_back a.0 places limit s (of_number form places limit text a.0 a.1 (λ m f. unique m a.0 f a.1) s b) a.2)
+  answer_once (Err NotNumber) (Err NotNumber) a b = refl
+  answer_once (Err NotNumber) (Ok w) a b = absurd (a b.0 b.1)
+  answer_once (Err NotNumber) (Err VanishesError) a b = absurd (a b.0 b.1)
+  answer_once (Err NotNumber) (Err Range) a b = absurd (a b.0 b.1)
 
 -- ---- no white
 abbrev IsVisible : ℕ → Type 0
@@ -75,8 +101,9 @@ letters_visible : (cs : List ℕ) → All IsAsciiAlphabetic cs → All IsVisible
 letters_visible [] h = All-nil IsVisible
 letters_visible (c ∷ cs) h = All-cons IsVisible c cs (letter_is_visible c (All-head IsAsciiAlphabetic c cs h)) (letters_visible cs (All-tail IsAsciiAlphabetic c cs h))
 
-pub spice_visible : (text : List ℕ) (n : Number) → IsSpice text n → All (λ c. 32 < c) text
-spice_visible text n a =
+pub spice_visible : (text : List ℕ) → IsSpiceNumber text → All (λ c. 32 < c) text
+spice_visible text number =
+    let a = number.1 in
     let s = a.spelling in
     let behind = All-append IsVisible (fraction_text s.fraction) (exponent_text s.exponent) (fraction_visible s.fraction a.form.fraction) (exponent_visible s.exponent a.form.exponent) in
     let number = All-append IsVisible (sign_text s.sign) (s.whole ++ (fraction_text s.fraction ++ exponent_text s.exponent)) (sign_visible s.sign) (All-append IsVisible s.whole (fraction_text s.fraction ++ exponent_text s.exponent) (digits_visible s.whole a.form.whole) behind) in

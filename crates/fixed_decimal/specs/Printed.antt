@@ -1,5 +1,5 @@
 -- The text of a value, and rounding to fewer places.
-use Rattle.std.specs.Prelude.{ℕ, ◌-◌, ◌*◌, ◌/◌, ◌%◌, ◌^◌, List, [], ◌++◌, length, replicate, decimal, codes, ℤ, pos, ◌*ℤ◌, ◌≤ℤ◌, int_lt, unsigned_abs, ◌==◌, if◌then◌else◌}
+use Rattle.std.specs.Prelude.{ℕ, ◌-◌, ◌/◌, ◌%◌, ◌^◌, List, [], ◌++◌, length, replicate, decimal, codes, ℤ, pos, ◌*ℤ◌, ◌≤ℤ◌, int_lt, unsigned_abs, ◌==◌, if◌then◌else◌}
 
 -- a minus, where the value is below 0
 abbrev pub minus_text : ℤ → List ℕ

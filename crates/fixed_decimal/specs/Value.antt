@@ -1,5 +1,8 @@
 -- The value of a number at so many decimal places, and what a reader answers.
-use Rattle.std.specs.Prelude.{◌≡◌, ℕ, ◌+◌, ◌*◌, ◌^◌, ◌<◌, ◌≤◌, Bool, true, false, ℤ, pos, neg_ℤ, unsigned_abs, List}
+use Rattle.std.specs.Prelude.{◌≡◌, ℕ, ◌+◌, ◌*◌, ◌^◌, ◌<◌, ◌≤◌, Bool, true, false, ℤ, pos, neg_ℤ, unsigned_abs, List, Result}
+use Rattle.std.specs.declared.result.Result.TheVariants.{Ok, Err}
+use Rattle.fixed_decimal.specs.declared.error.DecimalError.{DecimalError}
+use Rattle.fixed_decimal.specs.declared.error.DecimalError.TheVariants.{NotNumber, Vanishes as VanishesError, Range}
 use Rattle.fixed_decimal.specs.Number.{Number, IsDecimal}
 use Rattle.fixed_decimal.specs.Spice.{IsSpice}
 
@@ -44,6 +47,20 @@ pub record IsRead (number : Number) (places limit : ℕ) (v : ℤ) : Type 0 wher
 abbrev pub Stands : (List ℕ → Number → Type 0) → List ℕ → (Number → Type 0) → Type 0
 Stands form text holds = (number : Number) × form text number × holds number
 
+-- the text is a number, without a scale and with one
+abbrev pub IsDecimalNumber : List ℕ → Type 0
+IsDecimalNumber text = (number : Number) × IsDecimal text number
+
+abbrev pub IsSpiceNumber : List ℕ → Type 0
+IsSpiceNumber text = (number : Number) × IsSpice text number
+
+-- v is the value of the text at so many places
+abbrev pub DecimalValue : ℕ → List ℕ → ℤ → Type 0
+DecimalValue places text v = Stands IsDecimal text (λ number. IsValue number places v)
+
+abbrev pub SpiceValue : ℕ → List ℕ → ℤ → Type 0
+SpiceValue places text v = Stands IsSpice text (λ number. IsValue number places v)
+
 -- `read` answers v
 abbrev pub DecimalReads : ℕ → ℕ → List ℕ → ℤ → Type 0
 DecimalReads places limit text v = Stands IsDecimal text (λ number. IsRead number places limit v)
@@ -51,3 +68,10 @@ DecimalReads places limit text v = Stands IsDecimal text (λ number. IsRead numb
 -- `read_spice` answers v
 abbrev pub SpiceReads : ℕ → ℕ → List ℕ → ℤ → Type 0
 SpiceReads places limit text v = Stands IsSpice text (λ number. IsRead number places limit v)
+
+-- the answer to a text of this form: the value of its number, or why it has none
+abbrev pub IsAnswer : (List ℕ → Number → Type 0) → ℕ → ℕ → List ℕ → Result ℤ DecimalError → Type 0
+IsAnswer form places limit text (Ok v) = Stands form text (λ number. IsRead number places limit v)
+IsAnswer form places limit text (Err NotNumber) = (number : Number) → ¬ form text number
+IsAnswer form places limit text (Err VanishesError) = Stands form text (λ number. Vanishes number places)
+IsAnswer form places limit text (Err Range) = Stands form text (λ number. IsAbove number places limit)

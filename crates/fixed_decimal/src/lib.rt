@@ -13,7 +13,8 @@ mod split;
 
 pub use error::DecimalError;
 pub use laws::{
-    decimals_are_spice_numbers, numbers_are_words, printed_values_read_back, texts_have_one_value,
+    decimals_are_spice_numbers, numbers_are_longest, numbers_are_words, printed_values_read_back,
+    roundings_are_unique, texts_have_one_answer, texts_have_one_value,
 };
 pub use printer::{print, print_down, print_up};
 pub use reader::{read, read_spice};

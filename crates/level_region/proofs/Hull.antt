@@ -1,9 +1,9 @@
 -- Two spans that do not overlap, and the cells from the first one of both to the last one.
 use Rattle.std.proofs.Common.{◌≡◌, ℕ, ◌+◌, ◌-◌, ◌<◌, ◌≤◌, Bool, true, false, nat_le, cond, ℤ, List, ◌++◌, length, take, drop, refl, sym, ap, ◌∙◌, arith, ◌⊎◌, inl, inr}
 use Rattle.std.proofs.lemmas.Bool.{cases_lt, leb-true, leb-false}
-use Rattle.std.proofs.lemmas.List.{length-take-le, length-take, length-drop, take-take, drop-take, drop-drop, nil_from_length}
+use Rattle.std.proofs.lemmas.List.{length-take-le, length-drop, take-take, drop-take, drop-drop}
 use Rattle.level_region.specs.declared.span.Span.{Span}
-use Rattle.level_region.specs.Block.{Block, end_of, HasCell, IsWithin, AreApart, part_of, first_of, second_of, gap_of, hull_of, written_over, both_written}
+use Rattle.level_region.specs.Block.{Block, end_of, AreApart, part_of, first_of, second_of, gap_of, hull_of, written_over, both_written}
 
 -- the span that begins first, the other one, and what is known of them
 pub record AreOrdered (low high : Span) : Type 0 where
@@ -11,7 +11,7 @@ pub record AreOrdered (low high : Span) : Type 0 where
   -- they overlap in no cell: the second begins behind the first, or has no cell
   pub apart : (end_of low ≤ high.start) ⊎ (high.len ≡ 0)
 
-ordered : (low high : Span) → low.start ≤ high.start → AreApart low high → AreOrdered low high
+pub ordered : (low high : Span) → low.start ≤ high.start → AreApart low high → AreOrdered low high
 ordered low high order apart = record { order = order; apart = by_end (cases_lt high.start (end_of low)) (cases_lt 0 high.len) }
   where
     by_end : (high.start < end_of low) ⊎ (end_of low ≤ high.start) → (0 < high.len) ⊎ (high.len ≤ 0) → (end_of low ≤ high.start) ⊎ (high.len ≡ 0)

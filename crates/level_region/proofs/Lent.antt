@@ -3,18 +3,18 @@ use Rattle.std.proofs.Common.{List, [], ◌∷◌, ◌++◌, refl}
 use seplogic.Ra.Ura.{Ura}
 use mir.Syntax.{Lifetime}
 use mir.Val.{Val}
-use base.Logic.{ent, sep, all, wand}
-use base.Fml.{Lft, GName, Fml, fsep, fres, fobs}
+use base.Logic.{ent, sep, wand}
+use base.Fml.{Lft, GName, fres, fobs}
 use base.Stored.{coded_list}
 use types.Logic.{Logic, sem}
-use types.Kit.{‵, raw, ◌⊛◌, later, ◌$◌, ◌∵◌, !, qed, by, move, keep, drop as let_go, use1, use2, split, join, fsplit, fsplit3, fjoin, feq_l, rewrite, each, assume, updating, now, done}
+use types.Kit.{‵, ◌⊛◌, ◌$◌, ◌∵◌, !, qed, by, move, keep, drop as let_go, use2, split, join, fsplit3, rewrite, each, assume, updating, now, done}
 use types.Tokens.{name_done}
 use types.Follow.{followed₂}
 use denote.RattleType.{RattleType}
 use denote.Memory.{mem}
 use denote.Array.{Array}
 use denote.Ref.{MutBor}
-use denote.Slice.{MutSlice, heres}
+use denote.Slice.{MutSlice}
 use denote.FollowSlice.{heres_id}
 use denote.Follow.{follows, followed, follows_both, both_by}
 

@@ -1,4 +1,5 @@
 pub mod Apart
+pub mod Both
 pub mod Hull
 pub mod Lent
 pub mod Written

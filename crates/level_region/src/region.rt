@@ -86,6 +86,7 @@ impl Region {
         ensures first { result.0.now ≡ part_of self.old a }
         ensures second { result.1.now ≡ part_of self.old b }
     {
+        // A caller that goes on with the region in a proof learns what it holds from `get_mut` of one span round both, and `split_at_mut`.
         let cells = self.hull_mut(a, b);
         let (low, others) = split_first(cells, a, b);
         let (_, high) = split_gap(others, a, b);

@@ -22,6 +22,14 @@ fn what_is_written_is_read(rt: HostRuntime) -> Result<(), Fail> {
     region.get_mut(second).fill(7);
     assert_eq!(rt; region.get(first), [0].as_slice());
     assert_eq!(rt; region.get(second), [7, 7].as_slice());
+    let (of_second, of_first) = region.two_mut(second, first);
+    of_second.fill(8);
+    of_first.fill(9);
+    region.reset();
+    let first = region.cut(1).ok_or("no first span")?;
+    let second = region.cut(2).ok_or("no second span")?;
+    assert_eq!(rt; region.get(first), [9].as_slice());
+    assert_eq!(rt; region.get(second), [8, 8].as_slice());
     Ok(())
 }
 

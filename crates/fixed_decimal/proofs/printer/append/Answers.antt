@@ -1,4 +1,4 @@
-use Rattle.std.proofs.Common.{rules, arith, ◌≡◌, ℕ, ◌^◌, ◌<◌, ◌≤◌, ◌∙◌, ap, ◌++◌, ◌∷◌, [], List, length, vec_len, sym, append_assoc, decimal, ◌/◌, take, subst}
+use Rattle.std.proofs.Common.{arith, ◌≡◌, ℕ, ◌^◌, ◌≤◌, ◌∙◌, ap, ◌++◌, ◌∷◌, [], length, sym, append_assoc, decimal, ◌/◌, take, subst}
 use Rattle.std.specs.Prelude.{OnErr}
 use Rattle.fixed_decimal.proofs.Powers.{ten_le, ten_pos}
 use Rattle.fixed_decimal.proofs.Printing.{still_there_in}

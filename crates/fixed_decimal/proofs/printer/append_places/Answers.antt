@@ -1,4 +1,4 @@
-use Rattle.std.proofs.Common.{rules, arith, ◌≡◌, ℕ, ◌^◌, ◌<◌, ◌≤◌}
+use Rattle.std.proofs.Common.{arith, ◌^◌, ◌≤◌}
 use Rattle.fixed_decimal.proofs.Powers.{ten_le, ten_pos}
 use Rattle.fixed_decimal.proofs.printer.append_places.Goals as goal
 

@@ -1,4 +1,4 @@
-use Rattle.std.proofs.Common.{◌≡◌, ℕ, ◌++◌, List, ap, take, replicate}
+use Rattle.std.proofs.Common.{◌≡◌, ℕ, ◌++◌, ap, take, replicate}
 use Rattle.std.proofs.lemmas.List.{take-replicate}
 use Rattle.fixed_decimal.proofs.Printing.{written_on_ok}
 use Rattle.fixed_decimal.proofs.printer.append_zeros.Goals as goal

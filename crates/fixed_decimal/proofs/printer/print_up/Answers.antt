@@ -1,4 +1,4 @@
-use Rattle.std.proofs.Common.{rules, arith, ◌≡◌, ℕ, ◌-◌, ◌^◌, ◌<◌, ◌≤◌, ◌++◌, ℤ, pos, ◌∙◌, subst, sym, FitsSigned, to_z, of_z, OnOk}
+use Rattle.std.proofs.Common.{rules, arith, ◌≡◌, ◌-◌, ◌^◌, ◌≤◌, ◌++◌, ℤ, pos, ◌∙◌, subst, FitsSigned, to_z, of_z, OnOk}
 use Rattle.std.specs.Int.{w128}
 use Rattle.std.proofs.lemmas.Int.{ints, to_z-of_z}
 use Rattle.fixed_decimal.specs.Printed.{IsRoundedUp, printed}

@@ -1,4 +1,4 @@
-use Rattle.std.proofs.Common.{rules, arith, ◌≡◌, ℕ, ◌<◌, ℤ, pos, subst, sym, ap, ◌∙◌, FitsSigned, to_z, of_z}
+use Rattle.std.proofs.Common.{rules, arith, ◌<◌, ℤ, subst, sym, ap, ◌∙◌, FitsSigned}
 use Rattle.std.specs.Int.{w128, int_div_euclid}
 use Rattle.std.proofs.lemmas.Int.{ints, to_z-of_z}
 use Rattle.fixed_decimal.specs.Printed.{IsRoundedDown}

@@ -1,5 +1,4 @@
-use Rattle.std.proofs.Common.{◌≡◌, ℕ, ◌+◌, ◌≤◌, length, drop, refl, ap, ◌∙◌, rules, arith}
-use Rattle.std.proofs.lemmas.List.{length-take-le, length-drop}
+use Rattle.std.proofs.Common.{◌≡◌, ◌≤◌, length, refl, ap, ◌∙◌, arith}
 use Rattle.level_region.specs.declared.span.Span.{Span}
 use Rattle.level_region.specs.Block.{Block, end_of, part_of, written_over, hull_of}
 use Rattle.level_region.proofs.Hull.{hull_within, length-part_of}

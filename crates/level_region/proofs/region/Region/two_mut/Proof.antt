@@ -1,45 +1,44 @@
 -- `two_mut` is walked by hand: the borrow checker follows two slices only where the lender is a slice.
-use Rattle.std.proofs.Common.{◌≡◌, Bool, true, false, not, nat_le, ℕ, ◌+◌, ◌-◌, ◌<◌, ◌≤◌, ℤ, List, [], ◌∷◌, ◌++◌, length, take, drop as drop_l, refl, sym, ap, ◌∙◌, subst, MutBor, arith}
+use Rattle.std.proofs.Common.{◌≡◌, Bool, true, false, not, nat_le, ◌≤◌, ℤ, List, [], ◌∷◌, ◌++◌, length, take, drop as drop_l, refl, sym, ap, ◌∙◌, subst, MutBor, arith}
 use Rattle.std.proofs.raw_atomic.Walks.{proved}
 use lib.Dec.{T}
 use seplogic.Ra.Ura.{Ura}
-use base.Logic.{id⊢, emp, SProp, ent, sep}
+use base.Logic.{id⊢, emp, ent, sep}
 use base.Stored.{coded_list}
-use base.Fml.{Fml, Lft, GName, Share, ftrue, flft, fobs, fbor, fres, fsep}
+use base.Fml.{Fml, Lft, GName, ftrue, flft, fres}
 use mir.Syntax.{named}
-use mir.Val.{Val, vptr, vbool, vstruct, vcons, vnil, of_list}
+use mir.Val.{Val, vstruct, vcons, vnil, of_list}
 use types.Logic.{Logic, sem}
 use contract.Monad.{fact, fact_i}
 use contract.Running.{tables}
-use types.Kit.{‵, raw, ◌⊛◌, some, later, prop, at_ret, Sq, ◌$◌, ◌∵◌, !, qed, done, move, keep, drop as let_go, use0, use1, use2, use3, split, split3, join, fsplit, fsplit3, fjoin, fjoin3, fpick, fpack, feq_i, feq_l, pick, await, rewrite, suffices, frame, group, by}
-use types.Run.{from, enter, of_opd, addr, load, look, store, stop, fld, hop, no_more, and_then, first, blocks, branches, skips, exec, returns}
-use types.Part.{whole, sub, look_in, agg}
+use types.Kit.{‵, raw, ◌⊛◌, some, later, at_ret, ◌$◌, ◌∵◌, !, qed, done, move, keep, drop as let_go, use0, use1, use2, split, split3, join, fsplit, fjoin, fpick, fpack, feq_i, feq_l, pick, await, rewrite, suffices, frame, group, by}
+use types.Run.{from, enter, of_opd, addr, stop, fld, hop, no_more, and_then, first, branches, exec, returns}
+use types.Part.{whole, sub, agg}
 use types.ByLocal.{look_in_at, alloc_all, pass_all, free_all, look_at, get, get_in, through, sets, sets_last, lands_as, env}
 use denote.Exit.{yes, no}
 use denote.Laws.{Is, Typed}
 use denote.RattleType.{RattleType, Valss, owns}
 use denote.Ref.{MutRef, mut_vals, mut_Tells}
 use denote.Array.{Array}
-use denote.Follow.{follows, follows_both}
+use denote.Follow.{follows_both}
 use denote.Shadow.{pure_l, pure_i}
 use denote.Struct.Tuple.{Tuple, tuple_type}
 use denote.Struct.Declared.{shape}
 use denote.Struct.Struct.{within}
-use denote.Slice.{room, Room, mut_slice_at, MutSlice, slice_val, mut_slice_vals, mut_slice_Tells, mut_slice_Lawful}
+use denote.Slice.{room, mut_slice_at, MutSlice, slice_val, mut_slice_vals}
 use denote.Builtin.{i128, bool}
 use denote.Signature.{plain, mut_ref_to}
 use denote.Steps.{nothing, heard, only}
 use denote.Triple.Call.{calls_at}
 use denote.Triple.Clauses.{lasts, Lasts}
-use denote.Triple.Entry.{on_entry}
 use denote.Triple.Spec.{triple_of}
-use denote.Triple.Walked.{Stays, walk_of, says, stay_dropped, Goes-dropped, Goes-spent_ref, ends_at}
+use denote.Triple.Walked.{Stays, walk_of, stay_dropped, Goes-dropped, Goes-spent_ref, ends_at}
 use denote.Triple.Table.{framed}
 use Rattle.std.proofs.lemmas.List.{length-drop}
 use Rattle.level_region.proofs.Lent.{given_up, cut, cut_turned}
 use Rattle.level_region.proofs.Hull.{are_parts, in_order, turned}
 use Rattle.level_region.specs.declared.span.Span.{Span}
-use Rattle.level_region.specs.Block.{Block, IsWithin, AreApart, part_of, first_of, second_of, gap_of, hull_of, written_over, both_written}
+use Rattle.level_region.specs.Block.{Block, IsWithin, AreApart, part_of, first_of, gap_of, hull_of, written_over}
 use Rattle.level_region.specs.Lends.{LendsPart, LendsTwoParts}
 use Rattle.level_region.specs.contracts.region.Region.{the_row as R}
 use Rattle.level_region.specs.contracts.span.Span.{the_row as S}

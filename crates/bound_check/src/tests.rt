@@ -1,0 +1,248 @@
+use crate::certificate::is_certificate;
+use crate::fails::{Fails, Side};
+use grid_net::{Load, Net, Pad, Resistor};
+use std::process::Abort;
+
+/// A volt, in yoctovolts.
+const VOLT: i128 = 1_000_000_000_000_000_000_000_000;
+/// A milliampere, in femtoamperes.
+const MILLI: i64 = 1_000_000_000_000;
+/// An ohm, in nano-ohms.
+const OHM: i128 = 1_000_000_000;
+
+fn answer(rt: &impl Abort, net: &Net, high: &[i128], low: &[i128]) -> Result<(), Fails> {
+    assert!(rt; high.len() == net.nodes() as usize);
+    assert!(rt; low.len() == net.nodes() as usize);
+    is_certificate(net, high, low)
+}
+
+fn refusal(node: u32, side: Side, found: i128) -> Result<(), Fails> {
+    Err(Fails { node, side, found })
+}
+
+#[test]
+fn one_resistor(rt: HostRuntime) {
+    let above = 999000000000001000000000;
+    let below = 998999999999999000000000;
+    for (load, high, low, want) in [
+        (MILLI, [above, VOLT], [below, VOLT], Ok(())),
+        (
+            MILLI,
+            [above - 1000000000, VOLT],
+            [below, VOLT],
+            refusal(0, Side::High, 0),
+        ),
+        (
+            MILLI,
+            [above, VOLT - 1],
+            [below, VOLT],
+            refusal(1, Side::High, -1),
+        ),
+        (
+            MILLI - 1,
+            [above, VOLT],
+            [below, VOLT],
+            refusal(0, Side::High, 0),
+        ),
+        (
+            MILLI,
+            [above - 1, VOLT],
+            [below, VOLT],
+            refusal(0, Side::High, 0),
+        ),
+        (
+            MILLI,
+            [above, VOLT],
+            [below + 1, VOLT],
+            refusal(0, Side::Low, 0),
+        ),
+        (
+            MILLI,
+            [above, VOLT],
+            [below, VOLT + 1],
+            refusal(1, Side::Low, 1),
+        ),
+    ] {
+        let resistors = vec![in rt.alloc();
+            Resistor {
+                a: 1,
+                b: 0,
+                ohms: OHM
+            },
+        ]
+        .expect(&rt, "a resistor");
+        let pads = vec![in rt.alloc();
+            Pad {
+                node: 1,
+                volts: VOLT
+            },
+        ]
+        .expect(&rt, "a pad");
+        let loads = vec![in rt.alloc();
+            Load {
+                node: 0,
+                low: load,
+                high: load
+            },
+        ]
+        .expect(&rt, "a load");
+        let net = Net::build(rt.alloc(), 2, resistors, pads, loads).expect(&rt, "a network");
+        assert!(rt;
+            answer(&rt, &net, high.as_slice(), low.as_slice()) == want,
+            "load {load}"
+        );
+    }
+}
+
+#[test]
+fn empty_network(rt: HostRuntime) {
+    let net = Net::build(
+        rt.alloc(),
+        0,
+        Vec::new(rt.alloc()),
+        Vec::new(rt.alloc()),
+        Vec::new(rt.alloc()),
+    )
+    .expect(&rt, "a network");
+    assert!(rt; answer(&rt, &net, &[], &[]) == Ok(()));
+}
+
+/// A chain of 1 ohm and 2 ohms from a pad of 1 V, with 1 mA drawn at its middle and 2 mA at its end: 997 mV and 993 mV.
+#[test]
+fn chain(rt: HostRuntime) {
+    let resistors = vec![in rt.alloc();
+        Resistor {
+            a: 0,
+            b: 1,
+            ohms: OHM
+        },
+        Resistor {
+            a: 2,
+            b: 1,
+            ohms: 2 * OHM
+        },
+    ]
+    .expect(&rt, "two resistors");
+    let pads = vec![in rt.alloc();
+        Pad {
+            node: 0,
+            volts: VOLT
+        },
+    ]
+    .expect(&rt, "a pad");
+    let loads = vec![in rt.alloc();
+        Load {
+            node: 1,
+            low: MILLI,
+            high: MILLI
+        },
+        Load {
+            node: 2,
+            low: 2 * MILLI,
+            high: 2 * MILLI
+        },
+    ]
+    .expect(&rt, "two loads");
+    let net = Net::build(rt.alloc(), 3, resistors, pads, loads).expect(&rt, "a network");
+    let high: [i128; 3] = [VOLT, 997000000000002000000000, 993000000000004000000000];
+    let low: [i128; 3] = [VOLT, 996999999999998000000000, 992999999999996000000000];
+    for (node, up, down, want) in [
+        (0usize, 0i128, 0i128, Ok(())),
+        (2, -1, 0, refusal(2, Side::High, 0)),
+        (1, -1, 0, refusal(1, Side::High, -1)),
+        (2, 0, 1, refusal(2, Side::Low, 0)),
+        (1, 0, 1, refusal(1, Side::Low, 1)),
+        (0, -1, 0, refusal(0, Side::High, -1)),
+    ] {
+        let mut high = high;
+        let mut low = low;
+        high[node] += up;
+        low[node] += down;
+        assert!(rt;
+            answer(&rt, &net, high.as_slice(), low.as_slice()) == want,
+            "{node}: {up} and {down}"
+        );
+    }
+}
+
+/// A ring of four resistors of 1 ohm with a pad of 1 V, and at the corner across from it a load of 1 to 2 mA and a resistor to itself: from 999 mV and 998 mV, where all is drawn, to 999.5 mV and 999 mV.
+#[test]
+fn ring_with_a_range(rt: HostRuntime) {
+    let resistors = vec![in rt.alloc();
+        Resistor {
+            a: 0,
+            b: 1,
+            ohms: OHM
+        },
+        Resistor {
+            a: 0,
+            b: 2,
+            ohms: OHM
+        },
+        Resistor {
+            a: 3,
+            b: 1,
+            ohms: OHM
+        },
+        Resistor {
+            a: 2,
+            b: 3,
+            ohms: OHM
+        },
+        Resistor {
+            a: 3,
+            b: 3,
+            ohms: OHM
+        },
+    ]
+    .expect(&rt, "five resistors");
+    let pads = vec![in rt.alloc();
+        Pad {
+            node: 0,
+            volts: VOLT
+        },
+    ]
+    .expect(&rt, "a pad");
+    let loads = vec![in rt.alloc();
+        Load {
+            node: 3,
+            low: MILLI,
+            high: 2 * MILLI
+        },
+    ]
+    .expect(&rt, "a load");
+    let net = Net::build(rt.alloc(), 4, resistors, pads, loads).expect(&rt, "a network");
+    let high: [i128; 4] = [
+        VOLT,
+        999500000000002000000000,
+        999500000000002000000000,
+        999000000000003000000000,
+    ];
+    let low: [i128; 4] = [
+        VOLT,
+        998999999999998000000000,
+        998999999999998000000000,
+        997999999999997000000000,
+    ];
+    for (node, up, down, want) in [
+        (0usize, 0i128, 0i128, Ok(())),
+        (3, -1, 0, refusal(3, Side::High, 0)),
+        (3, 0, 1, refusal(3, Side::Low, 0)),
+        (1, 0, 1, refusal(1, Side::Low, 1)),
+        (
+            3,
+            100000000000000000000000000000000000000,
+            0,
+            refusal(3, Side::HighValue, 100000000000000999000000000003000000000),
+        ),
+    ] {
+        let mut high = high;
+        let mut low = low;
+        high[node] += up;
+        low[node] += down;
+        assert!(rt;
+            answer(&rt, &net, high.as_slice(), low.as_slice()) == want,
+            "{node}: {up} and {down}"
+        );
+    }
+}

@@ -1,0 +1,9 @@
+pub mod Run
+pub mod Sofar
+pub mod Left
+pub mod Rest
+pub mod Graph
+pub mod Bits
+pub mod Tables
+pub mod Stepping
+pub mod Loop

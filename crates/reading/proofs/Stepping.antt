@@ -1,0 +1,199 @@
+-- One word of the loop over a format's words.
+use Rattle.std.proofs.Common.{◌≡◌, ℕ, zero, suc, ◌+◌, ◌*◌, ◌<◌, ◌≤◌, true, false, List, [], ◌∷◌, ◌++◌, length, map, slice_get, get_or, set, Option, Some, None, refl, sym, ◌∙◌, ap, subst, append_assoc, arith}
+use Rattle.std.proofs.lemmas.List.{append-nil}
+use Rattle.std.proofs.lemmas.Option.{slice_get_read}
+use Rattle.outside.specs.declared.place.Place.{Place}
+use Rattle.reading.specs.declared.word.Form.TheVariants.{Bare, End}
+use Rattle.reading.specs.declared.word.Word.{Word}
+use Rattle.reading.specs.declared.refusal.Found.{Found}
+use Rattle.reading.specs.declared.patterns.Node.{Node}
+use Rattle.reading.specs.declared.machine.Machine.{Machine}
+use Rattle.reading.specs.Pattern.{Pattern, Never, Matches, Begins}
+use Rattle.reading.specs.Left.{skips, lefts, IsEach}
+use Rattle.reading.specs.Graph.{IsGraph, Denotes, Grown, Leaves}
+use Rattle.reading.specs.Reading.{Format, IsFine}
+use Rattle.reading.specs.Words.{Token, token, place_in}
+use Rattle.reading.specs.Taking.{GoesOn, Closes, Faulty}
+use Rattle.reading.specs.Grammar.{IsRegular, IsTaken, KnowsLefts, KnowsStarts, IsReady, KeepsOthers, Notes, StartsAt, StandsAt}
+use Rattle.reading.proofs.Left.{closed}
+use Rattle.reading.proofs.Graph.{length-extends}
+use Rattle.reading.proofs.Rest.{last, lefts-more, rest-never, rest-some, rest-skips, rest-goes_on}
+use Rattle.reading.proofs.Tables.{denotes-before, lefts-grown, starts-grown, lefts-noted, starts-noted}
+
+-- each value stands at its number
+abbrev pub IsListed : {X : Type 0} → (X → ℕ) → List X → Type 0
+IsListed {X} number all = (x : X) → slice_get all (number x) ≡ Some x
+
+pub each-listed : {X : Type 0} (number : X → ℕ) (all : List X) → IsListed number all → IsEach all
+each-listed number all h = λ x. (number x, h x)
+
+-- ## the tables
+
+pub known-start : {S C : Type 0} (number : S → ℕ) (section : C → ℕ) (pattern : C → Pattern S) (nodes : List Node) (starts : List (Option ℕ)) (c : C) (i at : ℕ) (r : Option ℕ) →
+    KnowsStarts number section pattern nodes starts → i ≡ section c → i < length starts → r ≡ get_or starts i r → r ≡ Some at →
+    (at < length nodes) × Denotes number nodes at (pattern c)
+known-start number section pattern nodes starts c i at r k e lt read is =
+    let there : slice_get starts i ≡ Some r = slice_get_read starts (length starts) i r refl lt read in
+    k.is c at (subst (λ z. slice_get starts z ≡ Some (Some at)) e (there ∙ ap (λ z. Some z) is))
+
+pub ready-started : {S C : Type 0} (number : S → ℕ) (section : C → ℕ) (pattern : C → Pattern S) (all : List C) (old new : Machine) (c : C) (i at : ℕ) → IsListed section all →
+    IsReady number section pattern old → Grown old.patterns.nodes.items new.patterns.nodes.items at → Denotes number new.patterns.nodes.items at (pattern c) →
+    i ≡ section c → new.lefts ≡ old.lefts → new.starts.items ≡ set old.starts.items i (Some at) → IsReady number section pattern new
+ready-started number section pattern all old new c i at listed r g d e l s = record {
+  graph = g.graph;
+  lefts = subst (λ z. KnowsLefts number new.patterns.nodes.items z.items) (sym l) (lefts-grown number _ _ at old.lefts.items r.graph g r.lefts);
+  starts = starts-noted number section pattern all new.patterns.nodes.items old.starts.items new.starts.items c at listed
+      (starts-grown number section pattern _ _ at old.starts.items g r.starts) g.within d (s ∙ ap (λ z. set old.starts.items z (Some at)) e);
+}
+
+pub ready-noted : {S C : Type 0} (number : S → ℕ) (section : C → ℕ) (pattern : C → Pattern S) (all : List S) (m one two : Machine) (sort : S) (i rest : ℕ) → IsListed number all →
+    length all ≤ 64 → IsReady number section pattern m → m.at < length m.patterns.nodes.items →
+    Leaves number sort m.patterns.nodes.items one.patterns.nodes.items m.at rest → one.lefts ≡ m.lefts → one.starts ≡ m.starts → i ≡ number sort →
+    Notes one.lefts.items two.lefts.items (m.at * 64 + i) rest → KeepsOthers one two → IsReady number section pattern two
+ready-noted number section pattern all m one two sort i rest listed few r within l left_same starts_same e n k =
+    let grown = l.grown in
+    let lefts = lefts-noted number all one.patterns.nodes.items one.lefts.items two.lefts.items sort m.at rest listed few
+    (subst (λ z. KnowsLefts number one.patterns.nodes.items z.items) (sym left_same) (lefts-grown number _ _ rest m.lefts.items r.graph grown r.lefts))
+    (omega (arith, within, length-extends _ _ grown.extends)) grown.within
+    (λ p d. l.is p (denotes-before number _ _ r.graph grown.extends m.at p within d))
+    (subst (λ z. Notes one.lefts.items two.lefts.items (m.at * 64 + z) rest) e n) in
+    let starts = subst (λ z. KnowsStarts number section pattern one.patterns.nodes.items z.items) (sym starts_same) (starts-grown number section pattern _ _ rest m.starts.items grown r.starts) in
+    record {
+      graph = subst (λ z. IsGraph z.nodes.items) (sym k.patterns) grown.graph;
+      lefts = subst (λ z. KnowsLefts number z.nodes.items two.lefts.items) (sym k.patterns) lefts;
+      starts = subst (λ z. KnowsStarts number section pattern z.nodes.items two.starts.items) (sym k.patterns) (subst (λ z. KnowsStarts number section pattern one.patterns.nodes.items z.items) (sym k.starts) starts);
+    }
+
+-- ## the word
+
+-- a reader before a word, and what is left of its pattern behind it
+pub record Before {S C K : Type 0} (number : S → ℕ) (all : List S) (pattern : C → Pattern S) (f : Format Token S K) (holds : List (List Token) → Type 0)
+    (old new : List Node) (at rest : ℕ) (units : List (List Token)) (part : List Token) (w : Token) : Type 0 where
+  pub listed : IsListed number all
+  pub regular : IsRegular all pattern f
+  pub stands : StandsAt number pattern f holds old at units part
+  pub leaves : Leaves number (f.sort units w) old new at rest
+
+pub before : {S C K : Type 0} (number : S → ℕ) (all : List S) (pattern : C → Pattern S) (f : Format Token S K) (holds : List (List Token) → Type 0)
+    (old new : List Node) (at rest : ℕ) (units : List (List Token)) (part : List Token) (w : Token) (s : S) →
+    IsListed number all → IsRegular all pattern f → s ≡ f.sort units w → StandsAt number pattern f holds old at units part → Leaves number s old new at rest →
+    Before number all pattern f holds old new at rest units part w
+before number all pattern f holds old new at rest units part w s h r e a l = record {
+  listed = h;
+  regular = r;
+  stands = a;
+  leaves = subst (λ z. Leaves number z old new at rest) e l;
+}
+
+pub behind : {S C K : Type 0} (number : S → ℕ) (all : List S) (pattern : C → Pattern S) (f : Format Token S K) (holds : List (List Token) → Type 0)
+    (old new : List Node) (at rest : ℕ) (units : List (List Token)) (part : List Token) (w : Token) →
+    (b : Before number all pattern f holds old new at rest units part w) →
+    Denotes number new rest (lefts (f.sort units) (pattern b.stands.section) (part ++ w ∷ []))
+behind number all pattern f holds old new at rest units part w b =
+    subst (λ z. Denotes number new rest z) (sym (lefts-more (f.sort units) (pattern b.stands.section) part w))
+    (b.leaves.is (lefts (f.sort units) (pattern b.stands.section) part) b.stands.rest)
+
+pub step-syntax : {S C K : Type 0} (number : S → ℕ) (all : List S) (pattern : C → Pattern S) (f : Format Token S K) (holds : List (List Token) → Type 0)
+    (old new : List Node) (at rest : ℕ) (units : List (List Token)) (part : List Token) (w : Token) →
+    Before number all pattern f holds old new at rest units part w → ((p : Pattern S) → Denotes number new rest p → p ≡ Never) →
+    Begins (f.sort units) (f.follow units) (part ++ w ∷ []) → ⊥
+step-syntax number all pattern f holds old new at rest units part w b never begins =
+    rest-never (f.sort units) (pattern b.stands.section) (part ++ w ∷ []) (never _ (behind number all pattern f holds old new at rest units part w b))
+    (subst (λ z. Begins (f.sort units) z (part ++ w ∷ [])) b.stands.follow begins)
+
+pub step-begins : {S C K : Type 0} (number : S → ℕ) (all : List S) (pattern : C → Pattern S) (f : Format Token S K) (holds : List (List Token) → Type 0)
+    (old new : List Node) (at rest : ℕ) (units : List (List Token)) (part : List Token) (w : Token) →
+    Before number all pattern f holds old new at rest units part w → ((p : Pattern S) → Denotes number new rest p → p ≡ Never → ⊥) →
+    Begins (f.sort units) (f.follow units) (part ++ w ∷ [])
+step-begins number all pattern f holds old new at rest units part w b some =
+    subst (λ z. Begins (f.sort units) z (part ++ w ∷ [])) (sym b.stands.follow)
+    (rest-some (f.sort units) all (b.regular.usable b.stands.section) (b.regular.samples units b.stands.section b.stands.follow) (pattern b.stands.section) (part ++ w ∷ [])
+    (b.regular.units b.stands.section).solid (some _ (behind number all pattern f holds old new at rest units part w b)))
+
+-- the place of a word of a list
+pub place-of : (words : List Word) (i : ℕ) (d : Word) → i < length words → place_in (map token words) None i ≡ Some (get_or words i d).place
+place-of [] i d h = absurd (omega arith)
+place-of (y ∷ words) zero d h = refl
+place-of (y ∷ words) (suc i) d h = place-of words i d (omega arith)
+
+-- the word that stands for one past a list's end
+abbrev pub no_word : Word
+no_word = record { text = record { ref_ptr = (0, 0); now = [] }; place = record { line = 0; word = 0 }; form = Bare }
+
+pub step-fault : {S K : Type 0} (f : Format Token S K) (units : List (List Token)) (part : List Token) (w : Token) (a : Found K) (place : Place) (words : List Token) →
+    words ≡ part ++ w ∷ [] → Begins (f.sort units) (f.follow units) (part ++ w ∷ []) → f.fault units words a → place_in words None a.at ≡ Some place →
+    Faulty f units part w place a.kind
+step-fault f units part w a place words e b is at = record {
+  begins = b;
+  at = a.at;
+  is = subst (λ z. f.fault units z a) e is;
+  place_is = subst (λ z. place_in z None a.at ≡ Some place) e at;
+}
+
+pub fault-within : {S C K : Type 0} (number : S → ℕ) (all : List S) (pattern : C → Pattern S) (f : Format Token S K) (holds : List (List Token) → Type 0)
+    (old new : List Node) (at rest : ℕ) (units : List (List Token)) (part : List Token) (w : Token) (a : Found K) (words : List Token) →
+    Before number all pattern f holds old new at rest units part w → words ≡ part ++ w ∷ [] → Begins (f.sort units) (f.follow units) (part ++ w ∷ []) → f.fault units words a → a.at < length words
+fault-within number all pattern f holds old new at rest units part w a words b e begins is =
+    subst (λ z. a.at < length z) (sym e) (b.regular.orderly.near units (part ++ w ∷ []) a begins (subst (λ z. f.fault units z a) e is))
+
+open-not-end : {S C K : Type 0} (number : S → ℕ) (all : List S) (pattern : C → Pattern S) (f : Format Token S K) (holds : List (List Token) → Type 0)
+    (old new : List Node) (at rest : ℕ) (units : List (List Token)) (part : List Token) (w : Token) →
+    Before number all pattern f holds old new at rest units part w → Begins (f.sort units) (f.follow units) (part ++ w ∷ []) →
+    (Matches (f.sort units) (f.follow units) (part ++ w ∷ []) → ⊥) → w.form ≡ End → ⊥
+open-not-end number all pattern f holds old new at rest units part w b begins goes_on end =
+    let unit = b.regular.units b.stands.section in
+    let m : Matches (f.sort units) (pattern b.stands.section) (part ++ w ∷ begins.0) =
+    subst (λ z. Matches (f.sort units) (pattern b.stands.section) z) (append_assoc part (w ∷ []) begins.0)
+    (subst (λ z. Matches (f.sort units) z ((part ++ w ∷ []) ++ begins.0)) b.stands.follow begins.1) in
+    let none : begins.0 ≡ [] = last (f.sort units) b.regular.end (pattern b.stands.section) unit.comes_last part begins.0 w (b.regular.ends units w end) m in
+    goes_on (subst (λ z. Matches (f.sort units) (f.follow units) z) (append-nil (part ++ w ∷ []))
+    (subst (λ z. Matches (f.sort units) (f.follow units) ((part ++ w ∷ []) ++ z)) none begins.1))
+
+pub step-open : {S C K : Type 0} (number : S → ℕ) (all : List S) (pattern : C → Pattern S) (f : Format Token S K) (holds : List (List Token) → Type 0)
+    (old new : List Node) (at rest : ℕ) (units : List (List Token)) (part : List Token) (w : Token) (words : List Token) →
+    Before number all pattern f holds old new at rest units part w → ((p : Pattern S) → Denotes number new rest p → p ≡ Never → ⊥) →
+    ((p : Pattern S) → Denotes number new rest p → false ≡ skips p) → words ≡ part ++ w ∷ [] → IsFine f units words →
+    GoesOn f (StandsAt number pattern f holds new rest) units part w
+step-open number all pattern f holds old new at rest units part w words b some no_skip e fine =
+    let d = behind number all pattern f holds old new at rest units part w b in
+    let begins = step-begins number all pattern f holds old new at rest units part w b some in
+    let goes_on : Matches (f.sort units) (f.follow units) (part ++ w ∷ []) → ⊥ =
+    λ m. rest-goes_on (f.sort units) (pattern b.stands.section) (part ++ w ∷ []) (sym (no_skip _ d)) (subst (λ z. Matches (f.sort units) z (part ++ w ∷ [])) b.stands.follow m) in
+    record {
+      begins = begins;
+      partly = goes_on;
+      fine = subst (λ z. IsFine f units z) e fine;
+      not_end = λ end. open-not-end number all pattern f holds old new at rest units part w b begins goes_on end;
+      there = record { held = b.stands.held; section = b.stands.section; follow = b.stands.follow; rest = d };
+    }
+
+stands-start : {S C K : Type 0} (number : S → ℕ) (pattern : C → Pattern S) (f : Format Token S K) (holds : List (List Token) → Type 0) (nodes : List Node) (at : ℕ) (units : List (List Token)) →
+    holds units → StartsAt number pattern f nodes at units → StandsAt number pattern f holds nodes at units []
+stands-start number pattern f holds nodes at units h s = record { held = h; section = s.0; follow = s.1; rest = s.2 }
+
+pub stands-first : {S C K : Type 0} (number : S → ℕ) (pattern : C → Pattern S) (f : Format Token S K) (holds : List (List Token) → Type 0) (nodes : List Node) (at : ℕ) →
+    holds [] → ((units : List (List Token)) → holds units → StartsAt number pattern f nodes at units) → StandsAt number pattern f holds nodes at [] []
+stands-first number pattern f holds nodes at h s = stands-start number pattern f holds nodes at [] h (s [] h)
+
+pub step-whole : {S C K : Type 0} (number : S → ℕ) (all : List S) (pattern : C → Pattern S) (f : Format Token S K) (holds : List (List Token) → Type 0)
+    (old new : List Node) (at rest : ℕ) (units : List (List Token)) (part : List Token) (w : Token) (after : List (List Token) → Type 0) (later : List Node) (start : ℕ) (words : List Token) →
+    Before number all pattern f holds old new at rest units part w →
+    ((p : Pattern S) → Denotes number new rest p → true ≡ skips p) → words ≡ part ++ w ∷ [] → IsFine f units words →
+    ((us : List (List Token)) → holds us → IsTaken f us words → after (us ++ words ∷ [])) →
+    ((us : List (List Token)) → after us → StartsAt number pattern f later start us) →
+    Closes f (StandsAt number pattern f after later start) units part w
+step-whole number all pattern f holds old new at rest units part w after later start words b skip e fine take starts =
+    let d = behind number all pattern f holds old new at rest units part w b in
+    let unit = b.regular.units b.stands.section in
+    let m : Matches (f.sort units) (pattern b.stands.section) (part ++ w ∷ []) = rest-skips (f.sort units) (pattern b.stands.section) (part ++ w ∷ []) (sym (skip _ d)) in
+    let matches : Matches (f.sort units) (f.follow units) (part ++ w ∷ []) = subst (λ z. Matches (f.sort units) z (part ++ w ∷ [])) (sym b.stands.follow) m in
+    let taken : after (units ++ words ∷ []) =
+    take units b.stands.held (record { matches = subst (λ z. Matches (f.sort units) (f.follow units) z) (sym e) matches; fine = fine }) in
+    let held : after (units ++ (part ++ w ∷ []) ∷ []) = subst (λ z. after (units ++ z ∷ [])) e taken in
+    record {
+      matches = matches;
+      ends = λ x more. closed (f.sort units) all (each-listed number all b.listed) (pattern b.stands.section) unit.closes (part ++ w ∷ []) x m
+          (subst (λ z. Matches (f.sort units) z ((part ++ w ∷ []) ++ x)) b.stands.follow more);
+      fine = subst (λ z. IsFine f units z) e fine;
+      there = stands-start number pattern f after later start (units ++ (part ++ w ∷ []) ∷ []) held (starts _ held);
+    }

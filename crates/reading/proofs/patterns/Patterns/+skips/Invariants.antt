@@ -1,0 +1,4 @@
+use Rattle.reading.proofs.patterns.Patterns.+skips.Given as goal
+
+abbrev pub decreases-skips : goal.decreases-skips
+decreases-skips g l = l.at

@@ -1,0 +1,6 @@
+use Rattle.std.proofs.Common.{take}
+use Rattle.reading.specs.Graph.{IsSet, listed_in}
+use Rattle.reading.proofs.patterns.set_of.Given as goal
+
+abbrev pub invariant-loop-sort : goal.invariant-loop-sort
+invariant-loop-sort g l = IsSet g.S.Numbered.number l.set (listed_in g.S.Numbered.number (take l.sort-index l.sorts))

@@ -1,0 +1,182 @@
+//! The one engine that reads the texts of all formats.
+ghost use Rattle.std.specs.Prelude.{◌≡◌, ◌<◌, ◌∷◌, ◌++◌, List, [], IfOk, OnOk, length, map, None, Some};
+ghost use Rattle.reading.specs.Words.{Token, token, place_in, IsWhole};
+ghost use Rattle.reading.specs.Graph.{Grown, Leaves};
+ghost use Rattle.reading.specs.Grammar.{IsReady, IsOpen, StartsAt, Stands, StandsAt};
+ghost use Rattle.reading.specs.Taking.{Takes, part_behind, Gives};
+
+use crate::grammar::Grammar;
+use crate::machine::Machine;
+use crate::numbered::Numbered;
+use crate::refusal::{Cause, Refusal};
+use crate::source::Source;
+use crate::stop::{Step, Stop, refused};
+use crate::word::Word;
+use outside::Place;
+use std::alloc::{AllocError, Global};
+
+/// The node of the pattern of what may follow.
+fn start<G: Grammar>(
+    machine: &mut Machine,
+    grammar: &G,
+    said: &G::Record,
+) -> Result<usize, AllocError>
+    requires { IsReady G.Sort.number G.Section.number G.pattern machine.old }
+    ensures ready { OnOk result (IsReady G.Sort.number G.Section.number G.pattern machine.new) }
+    ensures grown { IfOk result (λ at. Grown machine.old.patterns.nodes.items machine.new.patterns.nodes.items at) }
+    ensures is { IfOk result (λ at. (units : List (List Token)) → G.holds grammar.now said.now units →
+        StartsAt G.Sort.number G.pattern (G.format grammar.now) machine.new.patterns.nodes.items at units) }
+{
+    let section = grammar.section(said);
+    let number = section.number();
+    if let Some(at) = machine.starts[number] {
+        return Ok(at);
+    }
+    let at = machine.patterns.build(&G::rule(section))?;
+    machine.starts[number] = Some(at);
+    Ok(at)
+}
+
+/// The node of what is left behind a word of the sort.
+fn behind<G: Grammar>(machine: &mut Machine, sort: G::Sort) -> Result<usize, AllocError>
+    requires ready { IsReady G.Sort.number G.Section.number G.pattern machine.old }
+    requires within { machine.old.at < length machine.old.patterns.nodes.items }
+    ensures ready { OnOk result (IsReady G.Sort.number G.Section.number G.pattern machine.new) }
+    ensures is { IfOk result (λ rest. Leaves G.Sort.number sort machine.old.patterns.nodes.items machine.new.patterns.nodes.items machine.old.at rest) }
+{
+    let number = sort.number();
+    if let Some(rest) = machine.known(machine.at, number) {
+        return Ok(rest);
+    }
+    let rest = machine.patterns.left(sort, machine.at)?;
+    machine.note(machine.at, number, rest)?;
+    Ok(rest)
+}
+
+/// The place of a word of the unit.
+fn place_at(unit: &[Word], at: usize) -> Place
+    requires { at < length unit.now }
+    ensures { place_in (map token unit.now) None at ≡ Some result }
+{
+    unit[at].place
+}
+
+/// What the last word of the open unit does to it.
+fn step<G: Grammar>(
+    machine: &mut Machine,
+    grammar: &G,
+    said: &mut G::Record,
+    unit: &[Word],
+    sort: G::Sort,
+) -> Result<Step, Stop<G::Kind>>
+    requires ready { IsReady G.Sort.number G.Section.number G.pattern machine.old }
+    requires within { machine.old.at < length machine.old.patterns.nodes.items }
+    requires stands { IsOpen G.Sort.number G.pattern (G.format grammar.now) (G.holds grammar.now said.old) machine.old.patterns.nodes.items machine.old.at (map token unit.now) sort }
+    ensures ready { OnOk result (IsReady G.Sort.number G.Section.number G.pattern machine.new) }
+    ensures within { OnOk result (machine.new.at < length machine.new.patterns.nodes.items) }
+    ensures takes { (units : List (List Token)) (part : List Token) (w : Token) → map token unit.now ≡ part ++ w ∷ [] → sort ≡ (G.format grammar.now).sort units w →
+        StandsAt G.Sort.number G.pattern (G.format grammar.now) (G.holds grammar.now said.old) machine.old.patterns.nodes.items machine.old.at units part →
+        Takes (G.format grammar.now) (StandsAt G.Sort.number G.pattern (G.format grammar.now) (G.holds grammar.now said.new) machine.new.patterns.nodes.items machine.new.at)
+        units part w result }
+{
+    let rest = match behind::<G>(machine, sort) {
+        Ok(rest) => rest,
+        Err(_) => return Err(Stop::Want),
+    };
+    if machine.patterns.is_never::<G::Sort>(rest) {
+        return Err(Stop::Syntax);
+    }
+    if let Some(found) = grammar.fault(said, unit) {
+        return Err(Stop::Fault(place_at(unit, found.at), found.kind));
+    }
+    if !machine.patterns.skips::<G::Sort>(rest) {
+        machine.at = rest;
+        return Ok(Step::Open);
+    }
+    match grammar.take(said, unit) {
+        Ok(_) => {}
+        Err(_) => return Err(Stop::Want),
+    }
+    machine.at = match start(machine, grammar, said) {
+        Ok(at) => at,
+        Err(_) => return Err(Stop::Want),
+    };
+    Ok(Step::Whole)
+}
+
+/// Takes one more word into the open unit.
+fn advance<'a, G: Grammar>(
+    machine: &mut Machine,
+    grammar: &G,
+    said: &mut G::Record,
+    unit: &mut Vec<Word<'a>>,
+    word: Word<'a>,
+) -> Result<Step, Stop<G::Kind>>
+    requires ready { IsReady G.Sort.number G.Section.number G.pattern machine.old }
+    requires within { machine.old.at < length machine.old.patterns.nodes.items }
+    requires stands { Stands G.Sort.number G.pattern (G.format grammar.now) (G.holds grammar.now said.old) machine.old.patterns.nodes.items machine.old.at (map token unit.old.items) }
+    ensures ready { OnOk result (IsReady G.Sort.number G.Section.number G.pattern machine.new) }
+    ensures within { OnOk result (machine.new.at < length machine.new.patterns.nodes.items) }
+    ensures unit { IfOk result (λ step. map token unit.new.items ≡ part_behind step (map token unit.old.items ++ token word.entry ∷ [])) }
+    ensures takes { (units : List (List Token)) →
+        StandsAt G.Sort.number G.pattern (G.format grammar.now) (G.holds grammar.now said.old) machine.old.patterns.nodes.items machine.old.at units (map token unit.old.items) →
+        Takes (G.format grammar.now) (StandsAt G.Sort.number G.pattern (G.format grammar.now) (G.holds grammar.now said.new) machine.new.patterns.nodes.items machine.new.at)
+        units (map token unit.old.items) (token word.entry) result }
+{
+    let sort = grammar.sort(said, &word);
+    match unit.push(word) {
+        Ok(_) => {}
+        Err(_) => return Err(Stop::Want),
+    }
+    let done = match step(machine, grammar, said, unit.as_slice(), sort) {
+        Ok(done) => done,
+        Err(stop) => return Err(stop),
+    };
+    empty_if(unit, done);
+    Ok(done)
+}
+
+/// Empties the open unit where it is whole.
+fn empty_if(unit: &mut Vec<Word<'_>>, done: Step)
+    ensures { map token unit.new.items ≡ part_behind done (map token unit.old.items) }
+{
+    match done {
+        Step::Open => {}
+        Step::Whole => unit.clear(),
+    }
+}
+
+/// Reads the words of a text into the record of the units that they are, or says at which word the text is refused, and why.
+/// Of the words it keeps those of the open unit alone.
+pub fn read_words<'a, G: Grammar, I: Source<'a>>(
+    alloc: Global,
+    grammar: &G,
+    said: &mut G::Record,
+    source: &mut I,
+) -> Result<(), Refusal<G::Kind>>
+    requires start { G.holds grammar.now said.old [] }
+    requires whole { IsWhole (I.left source.old) }
+    ensures { Gives (G.format grammar.now) (G.holds grammar.now said.new) (I.left source.old) result }
+{
+    let mut machine = match Machine::new(alloc) {
+        Ok(machine) => machine,
+        Err(_) => return Err(Refusal::Want),
+    };
+    machine.at = match start(&mut machine, grammar, said) {
+        Ok(at) => at,
+        Err(_) => return Err(Refusal::Want),
+    };
+    let mut unit = Vec::new(alloc);
+    loop {
+        let word = match source.next() {
+            Ok(Some(word)) => word,
+            Ok(None) => return Ok(()),
+            Err(error) => return Err(Refusal::At(error.place, Cause::Lex(error.kind))),
+        };
+        let place = word.place;
+        match advance(&mut machine, grammar, said, &mut unit, word) {
+            Ok(_) => {}
+            Err(stop) => return Err(refused(place, stop)),
+        }
+    }
+}

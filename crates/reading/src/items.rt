@@ -1,0 +1,92 @@
+//! The words of the bytes of a text as a format sees them.
+ghost use Rattle.std.specs.Prelude.{◌≡◌, [], List, ℕ};
+ghost use Rattle.reading.specs.Reading.{Text};
+ghost use Rattle.reading.specs.Words.{Token, token, form_of, end_at as end_token, word_of, left_of, Steps};
+ghost use Rattle.reading.specs.Taking.{Reads};
+ghost use Rattle.text_lex.specs.Split.{token_of};
+
+use crate::engine::read_words;
+use crate::grammar::Grammar;
+use crate::refusal::Refusal;
+use crate::source::Source;
+use crate::word::{Form, Word};
+use outside::Place;
+use std::alloc::Global;
+use text_lex::{LexError, Mode, Words};
+
+/// The words that the splitter gives, and then the end of the text.
+#[derive(Drop)]
+struct Items<'a> {
+    words: Words<'a>,
+    ended: bool,
+}
+
+fn form_of(form: text_lex::Form) -> Form
+    ensures { result ≡ form_of form }
+{
+    match form {
+        text_lex::Form::Bare => Form::Bare,
+        text_lex::Form::Quoted => Form::Quoted,
+        text_lex::Form::Braced => Form::Braced,
+        text_lex::Form::Break => Form::Break,
+        text_lex::Form::Semicolon => Form::Semicolon,
+    }
+}
+
+fn seen(word: text_lex::Word<'_>) -> Word<'_>
+    ensures { token result ≡ word_of (token_of word.entry) }
+{
+    Word {
+        text: word.text,
+        place: word.place,
+        form: form_of(word.form),
+    }
+}
+
+/// The end of the text, as a word.
+fn end_at(place: Place) -> Word<'static>
+    ensures { token result ≡ end_token place }
+{
+    Word {
+        text: &[],
+        place,
+        form: Form::End,
+    }
+}
+
+impl<'a> Source<'a> for Items<'a> {
+    ghost left = { λ i. left_of i.ended i.words };
+
+    fn next(&mut self) -> Result<Option<Word<'a>>, LexError> {
+        if self.ended {
+            return Ok(None);
+        }
+        match self.words.next() {
+            Ok(Some(word)) => Ok(Some(seen(word))),
+            Ok(None) => {
+                self.ended = true;
+                Ok(Some(end_at(self.words.place())))
+            }
+            Err(error) => Err(error),
+        }
+    }
+}
+
+/// Reads a text into the record of the units that it is, or says at which word it is refused, and why.
+/// Of the text's words it keeps those of the open unit alone.
+pub fn read_text<G: Grammar>(
+    alloc: Global,
+    grammar: &G,
+    said: &mut G::Record,
+    text: &[u8],
+    mode: Mode,
+) -> Result<(), Refusal<G::Kind>>
+    requires { G.holds grammar.now said.old [] }
+    ensures { Reads mode text.now (G.format grammar.now) (G.holds grammar.now said.new) result }
+{
+    let mut items = Items {
+        words: Words::new(text, mode),
+        ended: false,
+    };
+    read_words(alloc, grammar, said, &mut items)
+}

@@ -1,0 +1,28 @@
+//! What it is to read a text, and the one engine that reads the texts of all formats.
+#![tactic(auto)]
+
+mod engine;
+mod grammar;
+mod items;
+mod laws;
+mod machine;
+mod numbered;
+mod patterns;
+mod reader;
+mod refusal;
+mod rule;
+mod source;
+mod stop;
+mod word;
+
+pub use engine::read_words;
+pub use grammar::Grammar;
+pub use items::read_text;
+pub use laws::texts_have_one_result;
+pub use numbered::Numbered;
+pub use reader::{Reader, read_by_hand};
+pub use refusal::{Cause, Found, Refusal};
+pub use rule::Rule;
+pub use source::Source;
+pub use stop::{Step, Stop};
+pub use word::{Form, Word};

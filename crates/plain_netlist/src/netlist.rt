@@ -11,14 +11,16 @@ use grid_net::{Net, NetError, no_net_refusal};
 use name_table::{OrderedNames, one_order};
 use std::alloc::Global;
 
-/// What stands in a plain netlist: the names of its nodes in byte order, and its network, in which the number of a node is the place of its name.
+/// What stands in a plain netlist.
 #[derive(Drop)]
 pub struct PlainNetlist<'a> {
+    /// The names of the nodes in byte order, each once: the number of a node is the place of its name.
     pub names: Vec<&'a [u8]>,
+    /// The network: its resistors in the order of their cards in nΩ, its pads in yV, and its loads in fA.
     pub net: Net,
 }
 
-/// What it says of a netlist that no network is made of its lists.
+/// Why no netlist is read where no network is made of its lists.
 fn refusal(error: NetError) -> PlainNetlistError
     ensures { result ≡ PlainNetlistError.NotPlain → error ≢ NetError.Want }
 {
@@ -30,7 +32,12 @@ fn refusal(error: NetError) -> PlainNetlistError
     }
 }
 
-/// Reads a plain netlist.
+/// Reads a plain netlist: lines `R<name> a b ohms`, `V<name> a 0 volts` and `I<name> a 0 amperes`, with single blanks, and the line `.end`.
+/// The form is that of the public power grid benchmarks (S. R. Nassif, "Power Grid Analysis Benchmarks", ASP-DAC 2008), and a value has SPICE's scales.
+///
+/// Nothing is copied but numbers: the names are slices of the text. The time is that of one pass over the text, and of one sort of the names.
+///
+/// `NotPlain` comes exactly where the text is no plain netlist, also where a limit of a network is passed or a node has two sources, unless memory was wanting (`Want`).
 pub fn read_plain_netlist<'a>(
     alloc: Global,
     text: &'a [u8],

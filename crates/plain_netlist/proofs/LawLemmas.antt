@@ -5,9 +5,7 @@ use Rattle.std.specs.List.{list_any}
 use Rattle.std.proofs.lemmas.Bool.{false_from_ne_true}
 use Rattle.std.proofs.lemmas.List.Folds.{list_any_none}
 use Rattle.std.proofs.lemmas.List.Elements.{All-weaker}
-use Rattle.fixed_decimal.specs.Number.{Number}
-use Rattle.fixed_decimal.specs.Spice.{IsSpice}
-use Rattle.fixed_decimal.specs.Value.{SpiceReads}
+use Rattle.fixed_decimal.specs.Value.{SpiceReads, IsSpiceNumber}
 use Rattle.plain_netlist.specs.Cut.{Lacks}
 use Rattle.plain_netlist.specs.Card.{is_white, Card, letter, IsPlainCard, card_text, value_places, value_limit}
 use Rattle.plain_netlist.specs.Laws.{CardLaws}
@@ -18,7 +16,7 @@ use Rattle.plain_netlist.proofs.CardLemmas.{white_lacks, node_lacks, other_lacks
 
 -- what holds of numbers: their bytes are above a blank, a text has one value, and a value that is read keeps its limit
 pub record NumberLaws : Type 0 where
-  pub no_white : (text : List ℕ) (n : Number) → IsSpice text n → All (λ c. 32 < c) text
+  pub no_white : (text : List ℕ) → IsSpiceNumber text → All (λ c. 32 < c) text
   pub spice : (places limit : ℕ) (text : List ℕ) (v w : ℤ) → SpiceReads places limit text v → SpiceReads places limit text w → v ≡ w
   pub within : (places limit : ℕ) (text : List ℕ) (v : ℤ) → SpiceReads places limit text v → unsigned_abs v ≤ limit
 
@@ -29,7 +27,7 @@ high_lacks_feed text high = list_any_none (λ x. eqb x 10) text (All-weaker (λ 
 -- the text of a plain card has no line feed
 pub card_lacks_feed : NumberLaws → (card : Card) → IsPlainCard card → Lacks 10 (card_text card)
 card_lacks_feed laws card plain =
-    let value = high_lacks_feed card.text (laws.no_white card.text plain.reads.0 plain.reads.1) in
+    let value = high_lacks_feed card.text (laws.no_white card.text (plain.reads.0, plain.reads.1)) in
     let third = lacks_between 10 32 card.to card.text refl (other_lacks 10 refl card.kind card.to plain.second_node) value in
     let second = lacks_between 10 32 card.from (card.to ++ 32 ∷ card.text) refl (node_lacks 10 refl card.from plain.first_node) third in
     lacks_between 10 32 (letter card.kind ∷ card.name) (card.from ++ 32 ∷ (card.to ++ 32 ∷ card.text)) refl (first_lacks card.kind card.name plain.name_in_one_word) second

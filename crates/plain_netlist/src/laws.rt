@@ -6,7 +6,7 @@ ghost use Rattle.grid_net.specs.Limits.{IsBuilt};
 ghost use Rattle.plain_netlist.specs.Laws.{CardLaws};
 ghost use Rattle.plain_netlist.specs.Netlist.{IsPlainNetlist};
 
-use fixed_decimal::{numbers_are_words, texts_have_one_value};
+use fixed_decimal::{numbers_are_words, texts_have_one_answer};
 use grid_net::built_network;
 use name_table::one_order;
 
@@ -14,7 +14,7 @@ use name_table::one_order;
 pub(crate) fn cards_are_known_by_their_lines()
     ensures { CardLaws }
 {
-    texts_have_one_value();
+    texts_have_one_answer();
     numbers_are_words();
 }
 

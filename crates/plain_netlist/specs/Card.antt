@@ -9,7 +9,7 @@ use Rattle.plain_netlist.specs.declared.card.CardKind.TheVariants.{Resistor, Sou
 abbrev pub is_white : ℕ → Bool
 is_white byte = (byte == 32) || (byte == 9) || (byte == 13) || (byte == 10)
 
--- what the name of a node is made of: a lower-case letter, a digit or `_`
+-- what the name of a node is made of: a lower-case letter (97 to 122), a digit (48 to 57) or `_` (95)
 abbrev pub is_node_byte : ℕ → Bool
 is_node_byte byte = (nat_le 97 byte && nat_le byte 122) || (nat_le 48 byte && nat_le byte 57) || (byte == 95)
 
@@ -23,7 +23,7 @@ pub record IsNodeName (name : List ℕ) : Type 0 where
   pub plain_bytes : list_all is_node_byte name ≡ true
   pub not_zero : name ≢ zero_node
 
--- one card: its kind, the name behind its letter, its two nodes, the text of its value, and the whole number that this text stands for
+-- one card: its kind, the name behind its letter, its two nodes, the text of its value, and the whole number of nΩ, yV or fA that this text stands for
 pub record Card : Type 0 where
   pub kind : CardKind
   pub name : List ℕ
@@ -32,7 +32,7 @@ pub record Card : Type 0 where
   pub text : List ℕ
   pub value : ℤ
 
--- the first letter of a card
+-- the first letter of a card: `R`, `V` or `I`
 abbrev pub letter : CardKind → ℕ
 letter Resistor = 82
 letter Source = 86
@@ -71,6 +71,6 @@ card_words card = (letter card.kind ∷ card.name) ∷ card.from ∷ card.to ∷
 abbrev pub card_text : Card → List ℕ
 card_text card = join_with_byte 32 (card_words card)
 
--- the line of a card, with the line feed that ends it
+-- the line of a card: `R<name> a b ohms`, `V<name> a 0 volts` or `I<name> a 0 amperes`, with the line feed that ends it
 abbrev pub card_line : Card → List ℕ
 card_line card = card_text card ++ 10 ∷ []

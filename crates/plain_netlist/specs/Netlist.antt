@@ -55,31 +55,33 @@ source_nodes cards = filter_map (λ card. source_node card.kind card.from) cards
 abbrev pub node_number : List (List ℕ) → List ℕ → ℕ
 node_number names name = position_or_len (λ other. bytes_eq other name) names
 
--- the resistor of a card, if it is one
+-- the resistor of a card of this kind, if it is one
 abbrev pub resistor_of : List (List ℕ) → Card → CardKind → Option NetResistor
 resistor_of names card Resistor = Some (record { a = node_number names card.from; b = node_number names card.to; ohms = card.value })
 resistor_of names card Source = None
 resistor_of names card Load = None
 
--- the pad of a card, if it is a source: it holds the node at the source's voltage
+-- the pad of a card of this kind, if it is a source: it holds the node at the source's voltage
 abbrev pub pad_of : List (List ℕ) → Card → CardKind → Option NetPad
 pad_of names card Resistor = None
 pad_of names card Source = Some (record { node = node_number names card.from; volts = card.value })
 pad_of names card Load = None
 
--- the load of a card, if it is one: the current that is drawn out of the node, of which both ends are the card's value
+-- the load of a card of this kind, if it is one: the current that is drawn out of the node, whose two ends are both the card's value
 abbrev pub load_of : List (List ℕ) → Card → CardKind → Option NetLoad
 load_of names card Resistor = None
 load_of names card Source = None
 load_of names card Load = Some (record { node = node_number names card.from; low = card.value; high = card.value })
 
--- the resistors, pads and loads of the cards, in the order of the cards, where a node's number is the place of its name
+-- the resistors of the cards, in the order of the cards, where a node's number is the place of its name
 abbrev pub resistors_of : List (List ℕ) → List Card → List NetResistor
 resistors_of names cards = filter_map (λ card. resistor_of names card card.kind) cards
 
+-- the pads of the cards, alike
 abbrev pub pads_of : List (List ℕ) → List Card → List NetPad
 pads_of names cards = filter_map (λ card. pad_of names card card.kind) cards
 
+-- the loads of the cards, alike
 abbrev pub loads_of : List (List ℕ) → List Card → List NetLoad
 loads_of names cards = filter_map (λ card. load_of names card card.kind) cards
 

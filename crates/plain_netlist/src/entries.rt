@@ -52,6 +52,7 @@ fn number_of<'a>(table: &mut NameTable<'a>, name: &'a [u8]) -> Result<u32, Plain
             }
             Ok(number)
         }
+        // A full table is out of reach: it has far more names than a network may have nodes.
         Err(_) => Err(PlainNetlistError::Want),
     }
 }

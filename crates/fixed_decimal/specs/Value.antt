@@ -47,10 +47,7 @@ pub record IsRead (number : Number) (places limit : ℕ) (v : ℤ) : Type 0 wher
 abbrev pub Stands : (List ℕ → Number → Type 0) → List ℕ → (Number → Type 0) → Type 0
 Stands form text holds = (number : Number) × form text number × holds number
 
--- the text is a number, without a scale and with one
-abbrev pub IsDecimalNumber : List ℕ → Type 0
-IsDecimalNumber text = (number : Number) × IsDecimal text number
-
+-- the text is a number with a scale
 abbrev pub IsSpiceNumber : List ℕ → Type 0
 IsSpiceNumber text = (number : Number) × IsSpice text number
 

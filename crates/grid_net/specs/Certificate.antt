@@ -12,12 +12,12 @@ high_sum net high i = outflow floor_div net.resistors high i +ℤ low_load net i
 abbrev pub low_sum : Network → (ℕ → ℤ) → ℕ → ℤ
 low_sum net low i = outflow ceil_div net.resistors low i +ℤ high_load net i
 
--- the sums of the high half: no pad is above its entry, and at each other node the sum is at least 1, so that more would leave the node than may be there
+-- the high half of the sums: no pad is above its entry, and at each other node the sum is at least 1: at these potentials more would leave the node than reaches it, however little is drawn, so each solution lies below
 pub record HighHolds (net : Network) (high : ℕ → ℤ) : Type 0 where
   pub pads : (i : ℕ) (v : ℤ) → i < net.nodes → pad_at net i ≡ Some v → v ≤ℤ high i
   pub sums : (i : ℕ) → i < net.nodes → pad_at net i ≡ None → pos 1 ≤ℤ high_sum net high i
 
--- the sums of the low half: no pad is below its entry, and at each other node the sum is at most -1
+-- the low half of the sums: no pad is below its entry, and at each other node the sum is at most -1: at these potentials more would reach the node than leaves it, however much is drawn, so each solution lies above
 pub record LowHolds (net : Network) (low : ℕ → ℤ) : Type 0 where
   pub pads : (i : ℕ) (v : ℤ) → i < net.nodes → pad_at net i ≡ Some v → low i ≤ℤ v
   pub sums : (i : ℕ) → i < net.nodes → pad_at net i ≡ None → low_sum net low i ≤ℤ negsuc 0

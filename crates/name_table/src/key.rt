@@ -5,7 +5,7 @@ ghost use Rattle.std.proofs.lemmas.Slice.Eq.{bytes_eq-Decides};
 
 use std::hash::{Hash, Hasher};
 
-// A name, whose bytes are hashed in one piece. A slice is hashed byte by byte, which takes twice as long.
+// A name, whose bytes are hashed in one piece. The hash of a slice takes them one by one.
 #[derive(Clone, Copy, PartialEq, Eq, PartialOrd, Ord)]
 pub(crate) struct Key<'a> {
     pub(crate) name: &'a [u8],

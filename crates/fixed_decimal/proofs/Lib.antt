@@ -9,5 +9,6 @@ pub mod Rounding
 pub mod Runs
 pub mod Settled
 pub mod Shifting
+pub mod Signs
 pub mod Spellings
 pub mod Taking

@@ -1,5 +1,5 @@
 -- The number that a decimal text stands for.
-use Rattle.std.specs.Prelude.{◌≡◌, ℕ, ◌+◌, ◌*◌, ◌^◌, ◌<◌, Bool, true, false, List, [], ◌++◌, length, Option, IfSome, if◌then◌else◌, codes}
+use Rattle.std.specs.Prelude.{◌≡◌, ℕ, ◌+◌, ◌*◌, ◌^◌, ◌<◌, Bool, true, false, List, [], ◌∷◌, ◌++◌, ◌==◌, length, Option, IfSome, if◌then◌else◌, codes}
 use Rattle.std.specs.declared.option.Option.TheVariants.{Some, None}
 use Rattle.std.specs.Str.Parse.{AllDigits, IsNumeral, digits_value}
 
@@ -74,6 +74,15 @@ exponent_up (Some e) = if is_minus e.sign then 0 else digits_value 10 e.digits
 abbrev pub exponent_down : Option Exponent → ℕ
 exponent_down None = 0
 exponent_down (Some e) = if is_minus e.sign then digits_value 10 e.digits else 0
+
+-- the number is below 0: it has a minus and is not 0
+abbrev pub IsNegative : Number → Type 0
+IsNegative number = (number.negative ≡ true) × (0 < number.numerator)
+
+-- the text begins with a minus
+abbrev pub begins_minus : List ℕ → Bool
+begins_minus [] = false
+begins_minus (c ∷ cs) = c == 45
 
 -- the number that a spelling stands for: all its digits, over one power of ten for each digit behind the point, times the power of its exponent
 abbrev pub number_of : Spelling → Number

@@ -66,6 +66,12 @@ DecimalReads places limit text v = Stands IsDecimal text (λ number. IsRead numb
 abbrev pub SpiceReads : ℕ → ℕ → List ℕ → ℤ → Type 0
 SpiceReads places limit text v = Stands IsSpice text (λ number. IsRead number places limit v)
 
+-- whether a text that has no value for this reason is a number
+abbrev pub is_number : DecimalError → Bool
+is_number NotNumber = false
+is_number VanishesError = true
+is_number Range = true
+
 -- the answer to a text of this form: the value of its number, or why it has none
 abbrev pub IsAnswer : (List ℕ → Number → Type 0) → ℕ → ℕ → List ℕ → Result ℤ DecimalError → Type 0
 IsAnswer form places limit text (Ok v) = Stands form text (λ number. IsRead number places limit v)

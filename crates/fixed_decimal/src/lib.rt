@@ -9,6 +9,7 @@ mod printer;
 mod reader;
 mod round;
 mod scale;
+mod sign;
 mod split;
 
 pub use error::DecimalError;
@@ -18,6 +19,7 @@ pub use laws::{
 };
 pub use printer::{print, print_down, print_up};
 pub use reader::{read, read_spice};
+pub use sign::is_negative;
 
 #[cfg(test)]
 mod tests;

@@ -486,3 +486,18 @@ fn long_texts(rt: HostRuntime) -> Result<(), Fail> {
     assert_eq!(rt; read(&text, 3, limit), Ok(3333));
     Ok(())
 }
+
+fn below_zero(text: &[u8]) -> bool {
+    is_negative(text, read_spice(text, 3, 1_000_000))
+}
+
+#[test]
+fn numbers_below_zero(rt: HostRuntime) {
+    assert!(rt; below_zero(b"-2.5k"));
+    assert!(rt; below_zero(b"-1e-99"));
+    assert!(rt; below_zero(b"-1e99"));
+    assert!(rt; !below_zero(b"-0.0"));
+    assert!(rt; !below_zero(b"-x"));
+    assert!(rt; !below_zero(b"1e99"));
+    assert!(rt; !below_zero(b""));
+}

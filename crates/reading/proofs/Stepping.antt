@@ -14,7 +14,7 @@ use Rattle.reading.specs.Graph.{IsGraph, Denotes, Grown, Leaves}
 use Rattle.reading.specs.Reading.{Format, IsFine}
 use Rattle.reading.specs.Words.{Token, token, place_in}
 use Rattle.reading.specs.Taking.{GoesOn, Closes, Faulty}
-use Rattle.reading.specs.Grammar.{IsRegular, IsTaken, KnowsLefts, KnowsStarts, IsReady, KeepsOthers, Notes, StartsAt, StandsAt}
+use Rattle.reading.specs.Grammar.{IsRegular, NoneShows, IsTaken, KnowsLefts, KnowsStarts, IsReady, KeepsOthers, Notes, StartsAt, StandsAt}
 use Rattle.reading.proofs.Left.{closed}
 use Rattle.reading.proofs.Graph.{length-extends}
 use Rattle.reading.proofs.Rest.{last, lefts-more, rest-never, rest-some, rest-skips, rest-goes_on}
@@ -149,6 +149,12 @@ open-not-end number all pattern f holds old new at rest units part w b begins go
     goes_on (subst (λ z. Matches (f.sort units) (f.follow units) z) (append-nil (part ++ w ∷ []))
     (subst (λ z. Matches (f.sort units) (f.follow units) ((part ++ w ∷ []) ++ z)) none begins.1))
 
+pub none-more : {S K : Type 0} (f : Format Token S K) (units : List (List Token)) (before part : List Token) (w : Token) →
+    NoneShows f units before part → IsFine f units ((before ++ part) ++ w ∷ []) → NoneShows f units before (part ++ w ∷ [])
+none-more f units before [] w h k = (subst (λ z. IsFine f units (z ++ w ∷ [])) (append-nil before) k, tt)
+none-more f units before (v ∷ part) w h k =
+    (h.0, none-more f units (before ++ v ∷ []) part w h.1 (subst (λ z. IsFine f units (z ++ w ∷ [])) (sym (append_assoc before (v ∷ []) part)) k))
+
 pub step-open : {S C K : Type 0} (number : S → ℕ) (all : List S) (pattern : C → Pattern S) (f : Format Token S K) (holds : List (List Token) → Type 0)
     (old new : List Node) (at rest : ℕ) (units : List (List Token)) (part : List Token) (w : Token) (words : List Token) →
     Before number all pattern f holds old new at rest units part w → ((p : Pattern S) → Denotes number new rest p → p ≡ Never → ⊥) →
@@ -164,12 +170,18 @@ step-open number all pattern f holds old new at rest units part w words b some n
       partly = goes_on;
       fine = subst (λ z. IsFine f units z) e fine;
       not_end = λ end. open-not-end number all pattern f holds old new at rest units part w b begins goes_on end;
-      there = record { held = b.stands.held; section = b.stands.section; follow = b.stands.follow; rest = d };
+      there = record {
+        held = b.stands.held;
+        section = b.stands.section;
+        follow = b.stands.follow;
+        rest = d;
+        fine = none-more f units [] part w b.stands.fine (subst (λ z. IsFine f units z) e fine);
+      };
     }
 
 stands-start : {S C K : Type 0} (number : S → ℕ) (pattern : C → Pattern S) (f : Format Token S K) (holds : List (List Token) → Type 0) (nodes : List Node) (at : ℕ) (units : List (List Token)) →
     holds units → StartsAt number pattern f nodes at units → StandsAt number pattern f holds nodes at units []
-stands-start number pattern f holds nodes at units h s = record { held = h; section = s.0; follow = s.1; rest = s.2 }
+stands-start number pattern f holds nodes at units h s = record { held = h; section = s.0; follow = s.1; rest = s.2; fine = tt }
 
 pub stands-first : {S C K : Type 0} (number : S → ℕ) (pattern : C → Pattern S) (f : Format Token S K) (holds : List (List Token) → Type 0) (nodes : List Node) (at : ℕ) →
     holds [] → ((units : List (List Token)) → holds units → StartsAt number pattern f nodes at units) → StandsAt number pattern f holds nodes at [] []
@@ -187,8 +199,12 @@ step-whole number all pattern f holds old new at rest units part w after later s
     let unit = b.regular.units b.stands.section in
     let m : Matches (f.sort units) (pattern b.stands.section) (part ++ w ∷ []) = rest-skips (f.sort units) (pattern b.stands.section) (part ++ w ∷ []) (sym (skip _ d)) in
     let matches : Matches (f.sort units) (f.follow units) (part ++ w ∷ []) = subst (λ z. Matches (f.sort units) z (part ++ w ∷ [])) (sym b.stands.follow) m in
+    let none : NoneShows f units [] (part ++ w ∷ []) = none-more f units [] part w b.stands.fine (subst (λ z. IsFine f units z) e fine) in
     let taken : after (units ++ words ∷ []) =
-    take units b.stands.held (record { matches = subst (λ z. Matches (f.sort units) (f.follow units) z) (sym e) matches; fine = fine }) in
+    take units b.stands.held (record {
+      matches = subst (λ z. Matches (f.sort units) (f.follow units) z) (sym e) matches;
+      fine = subst (λ z. NoneShows f units [] z) (sym e) none;
+    }) in
     let held : after (units ++ (part ++ w ∷ []) ∷ []) = subst (λ z. after (units ++ z ∷ [])) e taken in
     record {
       matches = matches;

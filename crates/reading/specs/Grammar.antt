@@ -26,10 +26,15 @@ pub record IsRegular {S C K : Type 0} (sorts : List S) (pattern : C → Pattern 
   pub units : (c : C) → IsUnit sorts (usable c) end (pattern c)
   pub orderly : IsOrderly f
 
--- The words are a whole unit behind these, with no fault.
+-- Behind these words of the open unit none of the next ones shows a fault.
+abbrev pub NoneShows : {S K : Type 0} → Format Token S K → List (List Token) → List Token → List Token → Type 0
+NoneShows f units before [] = Unit {0}
+NoneShows f units before (w ∷ words) = IsFine f units (before ++ w ∷ []) × NoneShows f units (before ++ w ∷ []) words
+
+-- The words are a whole unit behind these, and none of them has shown a fault.
 pub record IsTaken {S K : Type 0} (f : Format Token S K) (units : List (List Token)) (part : List Token) : Type 0 where
   pub matches : Matches (f.sort units) (f.follow units) part
-  pub fine : IsFine f units part
+  pub fine : NoneShows f units [] part
 
 -- The fault that the words of the open unit show, if they show one.
 abbrev pub Shows : {S K : Type 0} → Format Token S K → List (List Token) → List Token → Option (Found K) → Type 0
@@ -81,6 +86,7 @@ pub record StandsAt {S C K : Type 0} (number : S → ℕ) (pattern : C → Patte
   pub section : C
   pub follow : f.follow units ≡ pattern section
   pub rest : Denotes number nodes at (lefts (f.sort units) (pattern section) part)
+  pub fine : NoneShows f units [] part
 
 -- The unit's words so far, of which the last has this sort, stand behind some whole units where the loop stands.
 pub record IsOpen {S C K : Type 0} (number : S → ℕ) (pattern : C → Pattern S) (f : Format Token S K) (holds : List (List Token) → Type 0)

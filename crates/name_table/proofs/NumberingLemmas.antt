@@ -1,5 +1,5 @@
 -- The names that the keys of a table stand for.
-use Rattle.std.proofs.Common.{◌≡◌, ◌≢◌, ℕ, ◌<◌, Bool, true, false, ◌||◌, inl, inr, List, [], ◌∷◌, ◌++◌, Some, map, length, get_or, slice_get, if◌then◌else◌, Contains, AllPairs, refl, sym, ap, ◌∙◌, true≢false, position, arith}
+use Rattle.std.proofs.Common.{IsTrue, ◌↔◌, ◌≡◌, ◌≢◌, ℕ, ◌<◌, Bool, true, false, ◌||◌, inl, inr, List, [], ◌∷◌, ◌++◌, Some, map, length, get_or, slice_get, if◌then◌else◌, Contains, AllPairs, refl, sym, ap, ◌∙◌, true≢false, position, arith}
 use Rattle.std.specs.List.{list_any, IsDistinct}
 use Rattle.std.specs.Str.{bytes_eq}
 use Rattle.std.specs.Option.{option_map}
@@ -63,3 +63,8 @@ takes_name keys key = by (list_any (same_key key) keys) refl
     by : (b : Bool) → list_any (same_key key) keys ≡ b → TakesName (names_of keys) (names_of (if b then keys else (keys ++ key ∷ []))) key.name.now
     by true e = inl (is_named key.name.now keys e, refl)
     by false e = inr (is_not_named key.name.now keys e, map_push (λ k. k.name.now) keys key)
+
+-- whether a name is there, as it is told
+pub tells : (name : List ℕ) (keys : List Key) (r : Bool) → r ≡ list_any (λ k. bytes_eq name k.name.now) keys → IsTrue r ↔ Contains (names_of keys) name
+tells name keys true e = (λ h. is_named name keys (sym e), λ h. refl)
+tells name keys false e = (λ h. absurd (true≢false (sym h)), λ h. absurd (is_not_named name keys (sym e) h))

@@ -80,6 +80,13 @@ impl<'a> NameTable<'a> {
         self.names.len() == 0
     }
 
+    /// Whether the table holds the name.
+    pub fn contains(&self, name: &'a [u8]) -> bool
+        ensures { IsTrue result ↔ Contains self.now name.now }
+    {
+        self.names.contains(&Key { name })
+    }
+
     /// The number of a name. A name that is new gets the next number. A name that is there always has its answer.
     pub fn number(&mut self, name: &'a [u8]) -> Result<u32, NameError>
         ensures number { IfOk result (λ number. slice_get self.new number ≡ Some name.now) }

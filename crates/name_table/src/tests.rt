@@ -22,6 +22,8 @@ fn numbered_and_ordered(rt: HostRuntime) -> Result<(), Fail> {
         assert_eq!(rt; table.number(name)?, want, "at {name:?}");
     }
     assert_eq!(rt; table.len(), 7);
+    assert!(rt; table.contains(b"x"));
+    assert!(rt; !table.contains(b"y"));
     let ordered = table.ordered(rt.alloc())?;
     let want: [&[u8]; 7] = [b"", b"__", b"n1", b"n1_0_", b"n1_0_0", b"x", b"\xff\x00"];
     assert_eq!(rt; ordered.names.as_slice(), want.as_slice());

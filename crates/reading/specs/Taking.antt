@@ -9,7 +9,9 @@ use Rattle.reading.specs.declared.stop.Step.{Step}
 use Rattle.reading.specs.declared.stop.Step.TheVariants.{Open, Whole}
 use Rattle.reading.specs.declared.stop.Stop.{Stop}
 use Rattle.reading.specs.declared.stop.Stop.TheVariants as stops
-use Rattle.reading.specs.declared.refusal.Cause.TheVariants.{Syntax, Fault}
+use Rattle.text_lex.specs.declared.word.Mode.TheVariants.{LefDef, Lines}
+use Rattle.text_lex.specs.declared.word.LexKind.TheVariants.{BadString}
+use Rattle.reading.specs.declared.refusal.Cause.TheVariants.{Syntax, Lex, Fault}
 use Rattle.reading.specs.declared.refusal.Refusal.{Refusal}
 use Rattle.reading.specs.declared.refusal.Refusal.TheVariants as refusals
 use Rattle.reading.specs.Reading.{Format, Text, IsFine, IsRead, IsRefused}
@@ -72,3 +74,9 @@ Gives f holds text (Err refusal) = Refuses f text refusal
 -- What reading the bytes of a text gives, which are split in this mode.
 abbrev pub Reads : {A S K : Type 0} → Mode → List ℕ → Format Token S K → (List (List Token) → Type 0) → Result A (Refusal K) → Type 0
 Reads mode bytes f holds result = (split : Split) × IsSplit mode bytes split × Gives f holds (text_of split) result
+
+-- The refusals that texts of the mode have: in lines no word is refused for itself, and in LEF and DEF none for a substitution.
+abbrev pub FitsMode : {K : Type 0} → Mode → Refusal K → Type 0
+FitsMode Lines (refusals.At place (Lex kind)) = ⊥
+FitsMode LefDef (refusals.At place (Lex kind)) = kind ≡ BadString
+FitsMode mode refusal = Unit {0}

@@ -16,7 +16,7 @@ use outside::Place;
 use std::alloc::{AllocError, Global};
 
 /// The node of the pattern of what may follow.
-fn start<G: Grammar>(
+fn start<'a, G: Grammar<'a>>(
     machine: &mut Machine,
     grammar: &G,
     said: &G::Record,
@@ -38,7 +38,7 @@ fn start<G: Grammar>(
 }
 
 /// The node of what is left behind a word of the sort.
-fn behind<G: Grammar>(machine: &mut Machine, sort: G::Sort) -> Result<usize, AllocError>
+fn behind<'a, G: Grammar<'a>>(machine: &mut Machine, sort: G::Sort) -> Result<usize, AllocError>
     requires ready { IsReady G.Sort.number G.Section.number G.pattern machine.old }
     requires within { machine.old.at < length machine.old.patterns.nodes.items }
     ensures ready { OnOk result (IsReady G.Sort.number G.Section.number G.pattern machine.new) }
@@ -62,11 +62,11 @@ fn place_at(unit: &[Word], at: usize) -> Place
 }
 
 /// What the last word of the open unit does to it.
-fn step<G: Grammar>(
+fn step<'a, G: Grammar<'a>>(
     machine: &mut Machine,
     grammar: &G,
     said: &mut G::Record,
-    unit: &[Word],
+    unit: &[Word<'a>],
     sort: G::Sort,
 ) -> Result<Step, Stop<G::Kind>>
     requires ready { IsReady G.Sort.number G.Section.number G.pattern machine.old }
@@ -79,6 +79,7 @@ fn step<G: Grammar>(
         Takes (G.format grammar.now) (StandsAt G.Sort.number G.pattern (G.format grammar.now) (G.holds grammar.now said.new) machine.new.patterns.nodes.items machine.new.at)
         units part w result }
 {
+    grammar.regular();
     let rest = match behind::<G>(machine, sort) {
         Ok(rest) => rest,
         Err(_) => return Err(Stop::Want),
@@ -105,7 +106,7 @@ fn step<G: Grammar>(
 }
 
 /// Takes one more word into the open unit.
-fn advance<'a, G: Grammar>(
+fn advance<'a, G: Grammar<'a>>(
     machine: &mut Machine,
     grammar: &G,
     said: &mut G::Record,
@@ -148,7 +149,7 @@ fn empty_if(unit: &mut Vec<Word<'_>>, done: Step)
 
 /// Reads the words of a text into the record of the units that they are, or says at which word the text is refused, and why.
 /// Of the words it keeps those of the open unit alone.
-pub fn read_words<'a, G: Grammar, I: Source<'a>>(
+pub fn read_words<'a, G: Grammar<'a>, I: Source<'a>>(
     alloc: Global,
     grammar: &G,
     said: &mut G::Record,
@@ -158,6 +159,7 @@ pub fn read_words<'a, G: Grammar, I: Source<'a>>(
     requires whole { IsWhole (I.left source.old) }
     ensures { Gives (G.format grammar.now) (G.holds grammar.now said.new) (I.left source.old) result }
 {
+    grammar.regular();
     let mut machine = match Machine::new(alloc) {
         Ok(machine) => machine,
         Err(_) => return Err(Refusal::Want),

@@ -12,8 +12,8 @@ use crate::word::Word;
 use std::alloc::AllocError;
 
 /// A text format: the sorts of its words, the patterns of its units by sections, their faults, and what a whole unit says.
-/// The value is what the format depends on beside the text, as the names that the text has to list.
-pub trait Grammar {
+/// The value is what the format depends on beside the text, as the names that the text has to list. The record may keep slices of the text.
+pub trait Grammar<'a> {
     /// The sorts of the words: the keywords, and the kinds of other words.
     type Sort: Numbered + 'static;
     /// The sections: what may follow differs in each.
@@ -30,7 +30,7 @@ pub trait Grammar {
     ghost holds: { Self → Self.Record → List (List Token) → Type 0 };
 
     /// The sort of a word.
-    fn sort(&self, said: &Self::Record, word: &Word) -> Self::Sort
+    fn sort(&self, said: &Self::Record, word: &Word<'a>) -> Self::Sort
         ensures { (units : List (List Token)) → holds self.now said.now units → result ≡ (format self.now).sort units (token word.now) };
 
     /// The section in which the next unit stands.
@@ -42,13 +42,15 @@ pub trait Grammar {
         ensures { IsRule Self.Sort.number result (pattern section) };
 
     /// The fault that the last of the unit's words so far shows.
-    fn fault(&self, said: &Self::Record, unit: &[Word]) -> Option<Found<Self::Kind>>
+    fn fault(&self, said: &Self::Record, unit: &[Word<'a>]) -> Option<Found<Self::Kind>>
         ensures { (units : List (List Token)) → holds self.now said.now units → Shows (format self.now) units (map token unit.now) result };
 
     /// Takes into the record what a whole unit says.
-    fn take(&self, said: &mut Self::Record, unit: &[Word]) -> Result<(), AllocError>
+    fn take(&self, said: &mut Self::Record, unit: &[Word<'a>]) -> Result<(), AllocError>
         ensures { OnOk result ((units : List (List Token)) → holds self.now said.old units → IsTaken (format self.now) units (map token unit.now) →
             holds self.now said.new (units ++ map token unit.now ∷ [])) };
 
-    ghost regular: { (x : Self) → IsRegular Self.Sort.all pattern (format x) };
+    /// The laws that the format owes. It does nothing.
+    fn regular(&self)
+        ensures { IsRegular Self.Sort.all pattern (format self.now) };
 }

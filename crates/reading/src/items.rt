@@ -1,8 +1,8 @@
 //! The words of the bytes of a text as a format sees them.
-ghost use Rattle.std.specs.Prelude.{◌≡◌, [], List, ℕ};
+ghost use Rattle.std.specs.Prelude.{◌≡◌, [], List, ℕ, IfErr};
 ghost use Rattle.reading.specs.Reading.{Text};
 ghost use Rattle.reading.specs.Words.{Token, token, form_of, end_at as end_token, word_of, left_of, Steps};
-ghost use Rattle.reading.specs.Taking.{Reads};
+ghost use Rattle.reading.specs.Taking.{Reads, FitsMode};
 ghost use Rattle.text_lex.specs.Split.{token_of};
 
 use crate::engine::read_words;
@@ -74,15 +74,18 @@ impl<'a> Source<'a> for Items<'a> {
 
 /// Reads a text into the record of the units that it is, or says at which word it is refused, and why.
 /// Of the text's words it keeps those of the open unit alone.
-pub fn read_text<G: Grammar>(
+pub fn read_text<'a, G: Grammar<'a>>(
     alloc: Global,
     grammar: &G,
     said: &mut G::Record,
-    text: &[u8],
+    text: &'a [u8],
     mode: Mode,
 ) -> Result<(), Refusal<G::Kind>>
     requires { G.holds grammar.now said.old [] }
-    ensures { Reads mode text.now (G.format grammar.now) (G.holds grammar.now said.new) result }
+    ensures reads { Reads mode text.now (G.format grammar.now) (G.holds grammar.now said.new) result }
+
+    // In lines no word is refused for itself, and in LEF and DEF none for a substitution.
+    ensures lex { IfErr result (λ refusal. FitsMode mode refusal) }
 {
     let mut items = Items {
         words: Words::new(text, mode),

@@ -10,7 +10,7 @@ use crate::stop::{Step, Stop, refused};
 use crate::word::Word;
 
 /// What reads the words of a format one after the other.
-pub trait Reader {
+pub trait Reader<'a> {
     /// The sorts of the words.
     type Sort;
     /// The kinds of refusal besides Syntax.
@@ -21,14 +21,16 @@ pub trait Reader {
     ghost stands: { Self → List (List Token) → List Token → Type 0 };
 
     /// Takes one more word: the open unit goes on behind it, or is whole with it, or the text is refused.
-    fn take(&mut self, word: &Word) -> Result<Step, Stop<Self::Kind>>
+    fn take(&mut self, word: &Word<'a>) -> Result<Step, Stop<Self::Kind>>
         ensures { (units : List (List Token)) (part : List Token) → stands self.old units part → Takes format (stands self.new) units part (token word.now) result };
 
-    ghost orderly: { IsOrderly format };
+    /// The law that the format owes. It does nothing.
+    fn orderly(&self)
+        ensures { IsOrderly format };
 }
 
 /// Reads the words of a text, or says at which word the text is refused, and why.
-pub fn read_by_hand<'a, R: Reader, I: Source<'a>>(
+pub fn read_by_hand<'a, R: Reader<'a>, I: Source<'a>>(
     reader: &mut R,
     source: &mut I,
 ) -> Result<(), Refusal<R::Kind>>
@@ -36,6 +38,7 @@ pub fn read_by_hand<'a, R: Reader, I: Source<'a>>(
     requires whole { IsWhole (I.left source.old) }
     ensures { Gives R.format (λ units. R.stands reader.new units []) (I.left source.old) result }
 {
+    reader.orderly();
     loop {
         let word = match source.next() {
             Ok(Some(word)) => word,

@@ -35,5 +35,5 @@ loop-word-preserved g c =
 pub returns-in-Err-advance : goal.returns-in-Err-advance
 returns-in-Err-advance g c =
     let at = c.loop-word.invariant.at in
-    loop-refuses (g.G.Grammar.format c.args.grammar.now) (StandsAt g.G.Sort.Numbered.number g.G.Grammar.pattern (g.G.Grammar.format c.args.grammar.now) (g.G.Grammar.holds c.args.grammar.now c.loop-word.said) c.loop-word.machine.patterns.nodes.items c.loop-word.machine.at) (StandsAt g.G.Sort.Numbered.number g.G.Grammar.pattern (g.G.Grammar.format c.args.grammar.now) (g.G.Grammar.holds c.args.grammar.now c.advance.new.said) c.advance.new.machine.patterns.nodes.items c.advance.new.machine.at) (g.I.Source.left c.args.source.now) _ _ _ c.in-Ok-Some.word c.in-Err-advance.stop _ c.refused.result (g.met.G.Grammar.regular c.args.grammar.now).orderly at (subst (λ z. Steps (g.I.Source.left c.loop-word.source) (Ok z) (g.I.Source.left c.next.new.self)) c.in-Ok-Some.field-0-is c.in-Ok-Some.ensures)
+    loop-refuses (g.G.Grammar.format c.args.grammar.now) (StandsAt g.G.Sort.Numbered.number g.G.Grammar.pattern (g.G.Grammar.format c.args.grammar.now) (g.G.Grammar.holds c.args.grammar.now c.loop-word.said) c.loop-word.machine.patterns.nodes.items c.loop-word.machine.at) (StandsAt g.G.Sort.Numbered.number g.G.Grammar.pattern (g.G.Grammar.format c.args.grammar.now) (g.G.Grammar.holds c.args.grammar.now c.advance.new.said) c.advance.new.machine.patterns.nodes.items c.advance.new.machine.at) (g.I.Source.left c.args.source.now) _ _ _ c.in-Ok-Some.word c.in-Err-advance.stop _ c.refused.result c.regular.ensures.orderly at (subst (λ z. Steps (g.I.Source.left c.loop-word.source) (Ok z) (g.I.Source.left c.next.new.self)) c.in-Ok-Some.field-0-is c.in-Ok-Some.ensures)
     (c.in-Err-advance.ensures.takes at.units at.there) refl c.refused.ensures

@@ -20,5 +20,5 @@ loop-word-preserved g c = (
 
 pub returns-in-Err-take : goal.returns-in-Err-take
 returns-in-Err-take g c =
-    loop-refuses g.R.Reader.format (g.R.Reader.stands c.loop-word.reader) (g.R.Reader.stands c.take.new.self) (g.I.Source.left c.args.source.now) _ (g.I.Source.left c.next.new.self) _ c.in-Ok-Some.word c.in-Err-take.stop _ c.refused.result g.met.R.Reader.orderly c.loop-word.invariant.1 (subst (λ z. Steps (g.I.Source.left c.loop-word.source) (Ok z) (g.I.Source.left c.next.new.self)) c.in-Ok-Some.field-0-is c.in-Ok-Some.ensures)
+    loop-refuses g.R.Reader.format (g.R.Reader.stands c.loop-word.reader) (g.R.Reader.stands c.take.new.self) (g.I.Source.left c.args.source.now) _ (g.I.Source.left c.next.new.self) _ c.in-Ok-Some.word c.in-Err-take.stop _ c.refused.result c.orderly.ensures c.loop-word.invariant.1 (subst (λ z. Steps (g.I.Source.left c.loop-word.source) (Ok z) (g.I.Source.left c.next.new.self)) c.in-Ok-Some.field-0-is c.in-Ok-Some.ensures)
     (c.in-Err-take.ensures c.loop-word.invariant.1.units c.loop-word.invariant.0 c.loop-word.invariant.1.there) refl c.refused.ensures

@@ -12,7 +12,7 @@ use Rattle.fixed_decimal.specs.Kept.{Answers}
 use Rattle.fixed_decimal.specs.Number.{Number, Spelling, IsSpelling, text_of, number_of, IsDecimal}
 use Rattle.fixed_decimal.specs.Parts.{begins_digit, begins_point, begins_sign, begins_exponent, without_sign, Ends, Splits}
 use Rattle.fixed_decimal.specs.Spice.{IsSpice, IsScaleText, scaled, scale_of}
-use Rattle.fixed_decimal.specs.Value.{IsValue, IsRead, Vanishes, IsAbove, Stands, signed}
+use Rattle.fixed_decimal.specs.Value.{IsValue, IsRead, IsAnswer, Vanishes, IsAbove, Stands, signed}
 use Rattle.fixed_decimal.proofs.Answering.{abs_signed}
 use Rattle.fixed_decimal.proofs.Rounding.{nearest_unique}
 use Rattle.fixed_decimal.proofs.Spellings.{spelling_unique}
@@ -214,3 +214,10 @@ scaled_by_one n =
     let P : ℕ → Type 0 = λ x. make (n.numerator * 1) (n.denominator * 1) ≡ make x (n.denominator * 1) in
     let Q : ℕ → Type 0 = λ y. make (n.numerator * 1) (n.denominator * 1) ≡ make n.numerator y in
     subst Q b (subst P a refl)
+
+-- the answer to the number is the answer to the text
+pub settled_answer : (form : List ℕ → Number → Type 0) (text : List ℕ) (places limit : ℕ) (r : Result ℤ DecimalError) (n : Number) → form text n → Answers n places limit r → IsAnswer form places limit text r
+settled_answer form text places limit (Ok v) n is a = (n, is, a)
+settled_answer form text places limit (Err NotNumber) n is a = absurd a
+settled_answer form text places limit (Err ItVanishes) n is a = (n, is, a)
+settled_answer form text places limit (Err Range) n is a = (n, is, a)

@@ -1,7 +1,7 @@
 ghost use Rattle.std.specs.Prelude.{◌≡◌, ◌≤◌, ◌^◌, ◌↔◌, ℤ};
 ghost use Rattle.fixed_decimal.specs.Number.{Number, IsDecimal};
 ghost use Rattle.fixed_decimal.specs.Spice.{IsSpice};
-ghost use Rattle.fixed_decimal.specs.Value.{Vanishes, IsAbove, Stands, DecimalReads, SpiceReads};
+ghost use Rattle.fixed_decimal.specs.Value.{Vanishes, IsAbove, Stands, DecimalReads, SpiceReads, IsAnswer};
 
 use crate::error::DecimalError;
 use crate::round::rounded;
@@ -20,6 +20,7 @@ pub fn read(text: &[u8], places: u32, limit: u128) -> Result<i128, DecimalError>
     ensures not_number { (result ≡ Err DecimalError.NotNumber) ↔ ((number : Number) → ¬ IsDecimal text.now number) }
     ensures vanishes { (result ≡ Err DecimalError.Vanishes) ↔ Stands IsDecimal text.now (λ number. Vanishes number places) }
     ensures range { (result ≡ Err DecimalError.Range) ↔ Stands IsDecimal text.now (λ number. IsAbove number places limit) }
+    ensures answer { IsAnswer IsDecimal places limit text.now result }
 {
     let Some((number, rest)) = split(text) else {
         return Err(DecimalError::NotNumber);
@@ -44,6 +45,7 @@ pub fn read_spice(text: &[u8], places: u32, limit: u128) -> Result<i128, Decimal
     ensures not_number { (result ≡ Err DecimalError.NotNumber) ↔ ((number : Number) → ¬ IsSpice text.now number) }
     ensures vanishes { (result ≡ Err DecimalError.Vanishes) ↔ Stands IsSpice text.now (λ number. Vanishes number places) }
     ensures range { (result ≡ Err DecimalError.Range) ↔ Stands IsSpice text.now (λ number. IsAbove number places limit) }
+    ensures answer { IsAnswer IsSpice places limit text.now result }
 {
     let Some((number, letters)) = split(text) else {
         return Err(DecimalError::NotNumber);

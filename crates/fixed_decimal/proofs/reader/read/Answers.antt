@@ -1,7 +1,7 @@
 use Rattle.std.proofs.Common.{rules, ◌≡◌, ◌<◌, length, subst, sym}
 use Rattle.fixed_decimal.specs.Kept.{Answers}
 use Rattle.fixed_decimal.specs.Number.{Number, IsDecimal, number_of}
-use Rattle.fixed_decimal.proofs.Settled.{settled_value, settled_not_number, settled_vanishes, settled_range, no_value, no_vanishing, no_range, not_a_number, no_decimal, no_decimal_at_all, the_decimal, only_decimal, scaled_by_one}
+use Rattle.fixed_decimal.proofs.Settled.{settled_value, settled_not_number, settled_vanishes, settled_range, settled_answer, no_value, no_vanishing, no_range, not_a_number, no_decimal, no_decimal_at_all, the_decimal, only_decimal, scaled_by_one}
 use Rattle.fixed_decimal.proofs.reader.read.Goals as goal
 use Rattle.fixed_decimal.proofs.reader.read.Goals.{In_default, Then-not-is_empty, After-rounded}
 
@@ -68,3 +68,9 @@ returns-clause-vanishes c = settled_vanishes IsDecimal c.args.text.now c.args.pl
 
 pub returns-clause-range : goal.returns-clause-range
 returns-clause-range c = settled_range IsDecimal c.args.text.now c.args.places c.args.limit c.rounded.result (the_number c) (is_number c) (only c) (answered c)
+
+pub returns-clause-answer : goal.returns-clause-answer
+returns-clause-answer c = settled_answer IsDecimal c.args.text.now c.args.places c.args.limit c.rounded.result (the_number c) (is_number c) (answered c)
+
+pub returns-then-not-is_empty-clause-answer : goal.returns-then-not-is_empty-clause-answer
+returns-then-not-is_empty-clause-answer c = something_behind c

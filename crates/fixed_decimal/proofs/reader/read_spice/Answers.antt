@@ -2,7 +2,7 @@ use Rattle.std.proofs.Common.{◌≡◌, sym}
 use Rattle.fixed_decimal.specs.Kept.{Answers}
 use Rattle.fixed_decimal.specs.Number.{Number, number_of}
 use Rattle.fixed_decimal.specs.Spice.{IsSpice, scaled}
-use Rattle.fixed_decimal.proofs.Settled.{settled_value, settled_not_number, settled_vanishes, settled_range, no_value, no_vanishing, no_range, not_a_number, no_spice, the_spice, only_spice}
+use Rattle.fixed_decimal.proofs.Settled.{settled_value, settled_not_number, settled_vanishes, settled_range, settled_answer, no_value, no_vanishing, no_range, not_a_number, no_spice, the_spice, only_spice}
 use Rattle.fixed_decimal.proofs.reader.read_spice.Goals as goal
 use Rattle.fixed_decimal.proofs.reader.read_spice.Goals.{In_default-scale_of, After-rounded}
 
@@ -51,3 +51,9 @@ returns-clause-vanishes c = settled_vanishes IsSpice c.args.text.now c.args.plac
 
 pub returns-clause-range : goal.returns-clause-range
 returns-clause-range c = settled_range IsSpice c.args.text.now c.args.places c.args.limit c.rounded.result (the_number c) (is_number c) (only c) (answered c)
+
+pub returns-clause-answer : goal.returns-clause-answer
+returns-clause-answer c = settled_answer IsSpice c.args.text.now c.args.places c.args.limit c.rounded.result (the_number c) (is_number c) (answered c)
+
+pub returns-in_default-scale_of-clause-answer : goal.returns-in_default-scale_of-clause-answer
+returns-in_default-scale_of-clause-answer c = no_scale c

@@ -21,6 +21,8 @@ fn start<'a, G: Grammar<'a>>(
     grammar: &G,
     said: &G::Record,
 ) -> Result<usize, AllocError>
+where
+    G::Sort: 'a,
     requires { IsReady G.Sort.number G.Section.number G.pattern machine.old }
     ensures ready { OnOk result (IsReady G.Sort.number G.Section.number G.pattern machine.new) }
     ensures grown { IfOk result (λ at. Grown machine.old.patterns.nodes.items machine.new.patterns.nodes.items at) }
@@ -69,6 +71,8 @@ fn step<'a, G: Grammar<'a>>(
     unit: &[Word<'a>],
     sort: G::Sort,
 ) -> Result<Step, Stop<G::Kind>>
+where
+    G::Sort: 'a,
     requires ready { IsReady G.Sort.number G.Section.number G.pattern machine.old }
     requires within { machine.old.at < length machine.old.patterns.nodes.items }
     requires stands { IsOpen G.Sort.number G.pattern (G.format grammar.now) (G.holds grammar.now said.old) machine.old.patterns.nodes.items machine.old.at (map token unit.now) sort }
@@ -113,6 +117,8 @@ fn advance<'a, G: Grammar<'a>>(
     unit: &mut Vec<Word<'a>>,
     word: Word<'a>,
 ) -> Result<Step, Stop<G::Kind>>
+where
+    G::Sort: 'a,
     requires ready { IsReady G.Sort.number G.Section.number G.pattern machine.old }
     requires within { machine.old.at < length machine.old.patterns.nodes.items }
     requires stands { Stands G.Sort.number G.pattern (G.format grammar.now) (G.holds grammar.now said.old) machine.old.patterns.nodes.items machine.old.at (map token unit.old.items) }
@@ -155,6 +161,8 @@ pub fn read_words<'a, G: Grammar<'a>, I: Source<'a>>(
     said: &mut G::Record,
     source: &mut I,
 ) -> Result<(), Refusal<G::Kind>>
+where
+    G::Sort: 'a,
     requires start { G.holds grammar.now said.old [] }
     requires whole { IsWhole (I.left source.old) }
     ensures { Gives (G.format grammar.now) (G.holds grammar.now said.new) (I.left source.old) result }

@@ -15,7 +15,7 @@ use std::alloc::AllocError;
 /// The value is what the format depends on beside the text, as the names that the text has to list. The record may keep slices of the text.
 pub trait Grammar<'a> {
     /// The sorts of the words: the keywords, and the kinds of other words.
-    type Sort: Numbered + 'static;
+    type Sort: Numbered;
     /// The sections: what may follow differs in each.
     type Section: Numbered;
     /// What the whole units so far have said.
@@ -38,7 +38,7 @@ pub trait Grammar<'a> {
         ensures { (units : List (List Token)) → holds self.now said.now units → (format self.now).follow units ≡ pattern result };
 
     /// The pattern of a section's units.
-    fn rule(section: Self::Section) -> Rule<'static, Self::Sort>
+    fn rule(section: Self::Section) -> Rule<'a, Self::Sort>
         ensures { IsRule Self.Sort.number result (pattern section) };
 
     /// The fault that the last of the unit's words so far shows.

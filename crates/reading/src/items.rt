@@ -81,6 +81,8 @@ pub fn read_text<'a, G: Grammar<'a>>(
     text: &'a [u8],
     mode: Mode,
 ) -> Result<(), Refusal<G::Kind>>
+where
+    G::Sort: 'a,
     requires { G.holds grammar.now said.old [] }
     ensures reads { Reads mode text.now (G.format grammar.now) (G.holds grammar.now said.new) result }
 

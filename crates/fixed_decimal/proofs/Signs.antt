@@ -1,6 +1,7 @@
 -- The sign of a number, by its text and by its value.
-use Rattle.std.proofs.Common.{◌≡◌, ℕ, zero, suc, ◌+◌, ◌*◌, ◌^◌, ◌<◌, ◌↔◌, IsTrue, Bool, true, false, ◌&&◌, List, [], ◌∷◌, ◌++◌, length, ℤ, pos, Option, Some, None, Ok, Err, arith, ap, sym, ◌∙◌, refl, subst}
+use Rattle.std.proofs.Common.{◌≡◌, ℕ, zero, suc, ◌+◌, ◌*◌, ◌^◌, ◌<◌, ◌↔◌, IsTrue, Bool, true, false, ◌&&◌, List, [], ◌∷◌, ◌++◌, length, ℤ, pos, negsuc, ◌≤ℤ◌, Option, Some, None, Ok, Err, arith, ap, sym, ◌∙◌, refl, subst}
 use Rattle.std.specs.Prelude.{int_lt}
+use Rattle.std.proofs.lemmas.Int.{ints}
 use Rattle.std.specs.Str.Parse.{AllDigits}
 use Rattle.std.proofs.lemmas.Bool.{ne_eqb, le-ltb}
 use Rattle.std.proofs.lemmas.List.{append-nil}
@@ -75,6 +76,10 @@ module _ (form : List ℕ → Number → Type 0) (text : List ℕ) (unique : (m 
         (λ s. let negative : IsNegative n = subst IsNegative (unique s.0 n s.1 a.1) s.2 in
             is ∙ is_below n.negative r.value.magnitude negative.0 (λ z. positive n.numerator (r.stays (r.value.is ∙ z)) negative.1)),
       )
+
+  pub not_below : (v : ℤ) → IsAnswer form places limit text (Ok v) → (pos 0 ≤ℤ v) ↔ (Stands form text IsNegative → ⊥)
+  not_below (pos n) a = ((λ h s. no (sym (int_lt_pos n) ∙ (of_value (pos n) a).1 s)), (λ h. omega (arith, ints)))
+  not_below (negsuc n) a = ((λ h. absurd (omega (arith, ints))), (λ h. absurd (h ((of_value (negsuc n) a).0 refl))))
 
   refused : (n : Number) → form text n → 0 < n.numerator → IsTrue (begins_minus text) ↔ Stands form text IsNegative
   refused n is some = (

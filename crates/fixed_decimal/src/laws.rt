@@ -1,11 +1,11 @@
 //! Laws of the definitions, each on a function that does nothing.
 
-ghost use Rattle.std.specs.Prelude.{◌≡◌, ℕ, ◌^◌, ◌<◌, ◌≤◌, ◌++◌, List, ℤ, unsigned_abs, length, All, Result};
+ghost use Rattle.std.specs.Prelude.{◌≡◌, ℕ, ◌^◌, ◌<◌, ◌≤◌, ◌↔◌, ◌≤ℤ◌, ◌++◌, List, ℤ, pos, unsigned_abs, length, All, Result};
 ghost use Rattle.std.specs.Char.{IsAsciiAlphabetic};
 ghost use Rattle.fixed_decimal.specs.declared.error.DecimalError.{DecimalError};
-ghost use Rattle.fixed_decimal.specs.Number.{Number, IsDecimal, Spelling, IsSpelling, text_of};
+ghost use Rattle.fixed_decimal.specs.Number.{Number, IsDecimal, IsNegative, Spelling, IsSpelling, text_of};
 ghost use Rattle.fixed_decimal.specs.Spice.{IsSpice};
-ghost use Rattle.fixed_decimal.specs.Value.{DecimalValue, SpiceValue, DecimalReads, SpiceReads, IsSpiceNumber, IsAnswer};
+ghost use Rattle.fixed_decimal.specs.Value.{DecimalValue, SpiceValue, DecimalReads, SpiceReads, IsSpiceNumber, IsAnswer, Stands};
 ghost use Rattle.fixed_decimal.specs.Printed.{printed, IsRoundedDown, IsRoundedUp};
 
 /// A text stands for at most one number, and has at most one value at so many places.
@@ -50,4 +50,10 @@ pub fn printed_values_read_back()
 pub fn roundings_are_unique()
     ensures down { (value : ℤ) (unit : ℕ) (q r : ℤ) → IsRoundedDown value unit q → IsRoundedDown value unit r → q ≡ r }
     ensures up { (value : ℤ) (unit : ℕ) (q r : ℤ) → IsRoundedUp value unit q → IsRoundedUp value unit r → q ≡ r }
+{}
+
+/// A value that is read is not below 0 exactly where its number is not.
+pub fn values_keep_signs()
+    ensures decimal { (places limit : ℕ) (text : List ℕ) (v : ℤ) → DecimalReads places limit text v → (pos 0 ≤ℤ v) ↔ (¬ Stands IsDecimal text IsNegative) }
+    ensures spice { (places limit : ℕ) (text : List ℕ) (v : ℤ) → SpiceReads places limit text v → (pos 0 ≤ℤ v) ↔ (¬ Stands IsSpice text IsNegative) }
 {}

@@ -15,7 +15,7 @@ mod split;
 pub use error::DecimalError;
 pub use laws::{
     decimals_are_spice_numbers, numbers_are_longest, numbers_are_words, printed_values_read_back,
-    roundings_are_unique, texts_have_one_answer, texts_have_one_value,
+    roundings_are_unique, texts_have_one_answer, texts_have_one_value, values_keep_signs,
 };
 pub use printer::{print, print_down, print_up};
 pub use reader::{read, read_spice};

@@ -1,0 +1,79 @@
+-- The laws that the format owes.
+use Rattle.std.proofs.Common.{◌≡◌, ℕ, ◌+◌, ◌^◌, Bool, true, List, [], ◌∷◌, length, codes, Result, ℤ, refl, sym, ◌∙◌, ap, inl, inr}
+use Rattle.bias_file.specs.declared.error.BiasKind.{BiasKind}
+use Rattle.bias_file.specs.declared.section.Section.{Section}
+use Rattle.bias_file.specs.declared.section.Section.TheVariants.{Lines, Remark, Nothing}
+use Rattle.bias_file.specs.declared.sort.Sort.{Sort}
+use Rattle.bias_file.specs.declared.sort.Sort.TheVariants.{Supply, DropLimit, Pad, Cell, Instance, Mark, Comment, Other, LineEnd, TextEnd}
+use Rattle.bias_file.specs.Sorts.{all_sorts, sort_of, sort_with}
+use Rattle.bias_file.specs.Lines.{pattern}
+use Rattle.bias_file.specs.Faults.{fault}
+use Rattle.bias_file.specs.Reading.{format}
+use Rattle.bias_file.proofs.Numbers.{value_one, place_one}
+use Rattle.fixed_decimal.specs.declared.error.DecimalError.{DecimalError}
+use Rattle.fixed_decimal.specs.Number.{IsDecimal}
+use Rattle.fixed_decimal.specs.Spice.{IsSpice}
+use Rattle.fixed_decimal.specs.Value.{IsAnswer}
+use Rattle.reading.specs.declared.refusal.Found.{Found}
+use Rattle.reading.specs.declared.word.Form.{Form}
+use Rattle.reading.specs.declared.word.Form.TheVariants.{Bare, Break, End}
+use Rattle.reading.specs.Grammar.{IsUnit, IsRegular}
+use Rattle.reading.specs.Laws.{immediate}
+use Rattle.reading.specs.Words.{Token}
+
+word : List ℕ → Form → Token
+word text form = record { text = text; place = record { line = 1; word = 1 }; form = form }
+
+sample : (sort : Sort) → (w : Token) × (sort_of w ≡ sort)
+unfolding word
+sample Supply = (word (codes "supply") Bare, refl)
+sample DropLimit = (word (codes "droplimit") Bare, refl)
+sample Pad = (word (codes "pad") Bare, refl)
+sample Cell = (word (codes "cell") Bare, refl)
+sample Instance = (word (codes "instance") Bare, refl)
+sample Mark = (word (codes ";") Bare, refl)
+sample Comment = (word (codes "#") Bare, refl)
+sample Other = (word [] Bare, refl)
+sample LineEnd = (word [] Break, refl)
+sample TextEnd = (word [] End, refl)
+
+usable : Section → Sort → Bool
+usable section sort = true
+
+units_end : (section : Section) → IsUnit all_sorts (usable section) TextEnd (pattern section)
+unfolding usable
+units_end Lines = record { solid = inr refl; closes = refl; comes_last = refl }
+units_end Remark = record { solid = inr refl; closes = refl; comes_last = refl }
+units_end Nothing = record { solid = inl refl; closes = refl; comes_last = refl }
+
+last : (units : List (List Token)) (part : List Token) (a : Found BiasKind) → fault units part a → a.at + 1 ≡ length part
+last units [] a h = absurd h
+last units (first ∷ []) a h = absurd h
+last units (first ∷ name ∷ []) a h = ap (λ z. z + 1) h.0
+last units (first ∷ name ∷ value ∷ []) a h = ap (λ z. z + 1) h.0
+last units (first ∷ net ∷ layer ∷ x ∷ []) a h = ap (λ z. z + 1) h.0
+last units (first ∷ net ∷ layer ∷ x ∷ y ∷ []) a h = ap (λ z. z + 1) h.0
+last units (first ∷ net ∷ layer ∷ x ∷ y ∷ stop ∷ more) a h = absurd h
+
+-- a text has at most one answer
+abbrev pub HasOneAnswer : (List ℕ → Rattle.fixed_decimal.specs.Number.Number → Type 0) → Type 0
+HasOneAnswer form = (places limit : ℕ) (text : List ℕ) (r s : Result ℤ DecimalError) → IsAnswer form places limit text r → IsAnswer form places limit text s → r ≡ s
+
+one : HasOneAnswer IsDecimal → HasOneAnswer IsSpice → (units : List (List Token)) (part : List Token) (a b : Found BiasKind) → fault units part a → fault units part b → b.kind ≡ a.kind
+one d s units [] a b h i = absurd h
+one d s units (first ∷ []) a b h i = absurd h
+one d s units (first ∷ name ∷ []) a b h i = i.1.0 ∙ sym h.1.0
+one d s units (first ∷ name ∷ value ∷ []) a b h i = value_one (sort_of first) value.text (s 24 (10 ^ 25) value.text) (s 15 (10 ^ 18) value.text) a.kind b.kind h.1 i.1
+one d s units (first ∷ net ∷ layer ∷ x ∷ []) a b h i = place_one (sort_of first) x.text (d 6 (10 ^ 11) x.text) a.kind b.kind h.1 i.1
+one d s units (first ∷ net ∷ layer ∷ x ∷ y ∷ []) a b h i = place_one (sort_of first) y.text (d 6 (10 ^ 11) y.text) a.kind b.kind h.1 i.1
+one d s units (first ∷ net ∷ layer ∷ x ∷ y ∷ stop ∷ more) a b h i = absurd h
+
+pub regular : HasOneAnswer IsDecimal → HasOneAnswer IsSpice → IsRegular all_sorts pattern format
+regular d s = record {
+  usable = usable;
+  samples = λ units section follow sort h. sample sort;
+  end = TextEnd;
+  ends = λ units w e. ap (λ z. sort_with z w.text) e;
+  units = units_end;
+  orderly = immediate format (record { last = last; one = one d s });
+}

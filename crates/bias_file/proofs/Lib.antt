@@ -1,0 +1,6 @@
+pub mod Numbers
+pub mod Words
+pub mod Law
+pub mod Showing
+pub mod Taking
+pub mod Reading

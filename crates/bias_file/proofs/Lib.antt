@@ -4,3 +4,4 @@ pub mod Law
 pub mod Showing
 pub mod Taking
 pub mod Reading
+pub mod One

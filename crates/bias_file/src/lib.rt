@@ -9,6 +9,7 @@ mod error;
 mod fault;
 mod format;
 mod held;
+mod laws;
 mod line;
 mod named;
 mod number;
@@ -19,6 +20,7 @@ mod sort;
 
 pub use bias::{Amps, Bias, DropLimit, PadAt, Supply};
 pub use error::{BiasError, BiasKind};
+pub use laws::texts_have_one_bias;
 pub use read::read_bias;
 
 #[cfg(test)]

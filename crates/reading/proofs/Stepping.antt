@@ -8,9 +8,11 @@ use Rattle.reading.specs.declared.word.Word.{Word}
 use Rattle.reading.specs.declared.refusal.Found.{Found}
 use Rattle.reading.specs.declared.patterns.Node.{Node}
 use Rattle.reading.specs.declared.machine.Machine.{Machine}
+use Rattle.reading.specs.declared.machine.Rest.{Rest}
 use Rattle.reading.specs.Pattern.{Pattern, Never, Matches, Begins}
 use Rattle.reading.specs.Left.{skips, lefts, IsEach}
 use Rattle.reading.specs.Graph.{IsGraph, Denotes, Grown, Leaves}
+use Rattle.reading.specs.Standing.{IsStanding}
 use Rattle.reading.specs.Reading.{Format, IsFine}
 use Rattle.reading.specs.Words.{Token, token, place_in}
 use Rattle.reading.specs.Taking.{GoesOn, Closes, Faulty}
@@ -46,18 +48,18 @@ ready-started number section pattern all old new c i at listed r g d e l s = rec
       (starts-grown number section pattern _ _ at old.starts.items g r.starts) g.within d (s ∙ ap (λ z. set old.starts.items z (Some at)) e);
 }
 
-pub ready-noted : {S C : Type 0} (number : S → ℕ) (section : C → ℕ) (pattern : C → Pattern S) (all : List S) (m one two : Machine) (sort : S) (i rest : ℕ) → IsListed number all →
+pub ready-noted : {S C : Type 0} (number : S → ℕ) (section : C → ℕ) (pattern : C → Pattern S) (all : List S) (m one two : Machine) (sort : S) (i : ℕ) (rest : Rest) → IsListed number all →
     length all ≤ 64 → IsReady number section pattern m → m.at < length m.patterns.nodes.items →
-    Leaves number sort m.patterns.nodes.items one.patterns.nodes.items m.at rest → one.lefts ≡ m.lefts → one.starts ≡ m.starts → i ≡ number sort →
+    Leaves number sort m.patterns.nodes.items one.patterns.nodes.items m.at rest.node → IsStanding number one.patterns.nodes.items rest.node rest.standing → one.lefts ≡ m.lefts → one.starts ≡ m.starts → i ≡ number sort →
     Notes one.lefts.items two.lefts.items (m.at * 64 + i) rest → KeepsOthers one two → IsReady number section pattern two
-ready-noted number section pattern all m one two sort i rest listed few r within l left_same starts_same e n k =
+ready-noted number section pattern all m one two sort i rest listed few r within l stands left_same starts_same e n k =
     let grown = l.grown in
     let lefts = lefts-noted number all one.patterns.nodes.items one.lefts.items two.lefts.items sort m.at rest listed few
-    (subst (λ z. KnowsLefts number one.patterns.nodes.items z.items) (sym left_same) (lefts-grown number _ _ rest m.lefts.items r.graph grown r.lefts))
+    (subst (λ z. KnowsLefts number one.patterns.nodes.items z.items) (sym left_same) (lefts-grown number _ _ rest.node m.lefts.items r.graph grown r.lefts))
     (omega (arith, within, length-extends _ _ grown.extends)) grown.within
-    (λ p d. l.is p (denotes-before number _ _ r.graph grown.extends m.at p within d))
+    (λ p d. l.is p (denotes-before number _ _ r.graph grown.extends m.at p within d)) stands
     (subst (λ z. Notes one.lefts.items two.lefts.items (m.at * 64 + z) rest) e n) in
-    let starts = subst (λ z. KnowsStarts number section pattern one.patterns.nodes.items z.items) (sym starts_same) (starts-grown number section pattern _ _ rest m.starts.items grown r.starts) in
+    let starts = subst (λ z. KnowsStarts number section pattern one.patterns.nodes.items z.items) (sym starts_same) (starts-grown number section pattern _ _ rest.node m.starts.items grown r.starts) in
     record {
       graph = subst (λ z. IsGraph z.nodes.items) (sym k.patterns) grown.graph;
       lefts = subst (λ z. KnowsLefts number z.nodes.items two.lefts.items) (sym k.patterns) lefts;

@@ -3,11 +3,20 @@ ghost use Rattle.std.specs.Prelude.{◌≡◌, ◌+◌, ◌*◌, ◌<◌, ℕ, l
 ghost use Rattle.reading.specs.Grammar.{IsUnknown, TellsNoMore, KeepsOthers, Notes};
 ghost use Rattle.reading.specs.Graph.{IsGraph};
 
-use crate::patterns::Patterns;
+use crate::patterns::{Patterns, Standing};
 use std::alloc::{AllocError, Global};
 
 /// How many nodes have rows in the table of what is left. A format's patterns have some hundred.
 const ROWS: usize = 4096;
+
+/// What is left of a pattern behind a word.
+#[derive(Clone, Copy, Debug, PartialEq, Eq)]
+pub(crate) struct Rest {
+    /// The node of it.
+    pub(crate) node: usize,
+    /// How a unit stands of whose pattern this is left.
+    pub(crate) standing: Standing,
+}
 
 /// What is left of the open unit's pattern, and what is known of the format's patterns.
 #[derive(Drop)]
@@ -15,8 +24,8 @@ pub(crate) struct Machine {
     pub(crate) patterns: Patterns,
     /// For each section's number the node of its pattern, where it has been built.
     pub(crate) starts: Vec<Option<usize>>,
-    /// For each node a row of 64, by the number of a sort: the node that is left behind a word of the sort, where it is known.
-    pub(crate) lefts: Vec<Option<usize>>,
+    /// For each node a row of 64, by the number of a sort: what is left behind a word of the sort, where it is known.
+    pub(crate) lefts: Vec<Option<Rest>>,
     /// The node of what is left of the open unit's pattern.
     pub(crate) at: usize,
 }
@@ -37,7 +46,7 @@ impl Machine {
     }
 
     /// What is known to be left of the node's pattern behind a word of the sort with the number.
-    pub(crate) fn known(&self, node: usize, number: usize) -> Option<usize>
+    pub(crate) fn known(&self, node: usize, number: usize) -> Option<Rest>
         requires { number < 64 }
         ensures { IfSome result (λ v. slice_get self.now.lefts.items (node * 64 + number) ≡ Some (Some v)) }
     {
@@ -51,7 +60,7 @@ impl Machine {
     }
 
     /// Makes it known what is left of the node's pattern behind a word of the sort with the number.
-    pub(crate) fn note(&mut self, node: usize, number: usize, rest: usize) -> Result<(), AllocError>
+    pub(crate) fn note(&mut self, node: usize, number: usize, rest: Rest) -> Result<(), AllocError>
         requires { number < 64 }
         ensures lefts { OnOk result (Notes self.old.lefts.items self.new.lefts.items (node * 64 + number) rest) }
         ensures others { OnOk result (KeepsOthers self.old self.new) }
@@ -79,7 +88,7 @@ fn unknown(alloc: Global, count: usize) -> Result<Vec<Option<usize>>, AllocError
 }
 
 /// Makes the table longer, with entries that are not known, so that the key is in it.
-fn extend(table: &mut Vec<Option<usize>>, key: usize) -> Result<(), AllocError>
+fn extend(table: &mut Vec<Option<Rest>>, key: usize) -> Result<(), AllocError>
     ensures within { OnOk result (key < length table.new.items) }
     ensures same { OnOk result (TellsNoMore table.old.items table.new.items) }
 {

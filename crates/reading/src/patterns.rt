@@ -2,11 +2,23 @@
 ghost use Rattle.std.specs.Prelude.{◌≡◌, ◌≢◌, ◌<◌, IfOk, IsTrue, length, true, false};
 ghost use Rattle.reading.specs.Pattern.{Pattern, Never};
 ghost use Rattle.reading.specs.Left.{skips, seq, alt, left};
+ghost use Rattle.reading.specs.Standing.{IsStanding};
 ghost use Rattle.reading.specs.Graph.{IsGraph, PartsBelow, Placed, Joins, Leaves, Denotes, IsSet, among, IsWith, IsWithout, listed_in, Built};
 
 use crate::numbered::Numbered;
 use crate::rule::Rule;
 use std::alloc::{AllocError, Global};
+
+/// How the open unit stands where some pattern is left of its own.
+#[derive(Clone, Copy, Debug, PartialEq, Eq)]
+pub(crate) enum Standing {
+    /// The unit's words so far begin no unit.
+    Nowhere,
+    /// The unit goes on.
+    Open,
+    /// The unit is whole.
+    Whole,
+}
 
 /// A pattern whose parts stand earlier in the list.
 #[derive(Clone, Copy, Debug, PartialEq, Eq)]
@@ -126,8 +138,23 @@ impl Patterns {
         }
     }
 
+    /// How the open unit stands where the pattern is left.
+    pub(crate) fn standing<S: Numbered>(&self, at: usize) -> Standing
+        requires graph { IsGraph self.now.nodes.items }
+        requires at_in { at < length self.now.nodes.items }
+        ensures { IsStanding S.number self.now.nodes.items at result }
+    {
+        if self.is_never::<S>(at) {
+            Standing::Nowhere
+        } else if self.skips::<S>(at) {
+            Standing::Whole
+        } else {
+            Standing::Open
+        }
+    }
+
     /// Whether the pattern is that of no list of words.
-    pub(crate) fn is_never<S: Numbered>(&self, at: usize) -> bool
+    fn is_never<S: Numbered>(&self, at: usize) -> bool
         requires { at < length self.now.nodes.items }
         ensures never { (p : Pattern S) → Denotes S.number self.now.nodes.items at p → result ≡ true → p ≡ Never }
         ensures some { (p : Pattern S) → Denotes S.number self.now.nodes.items at p → result ≡ false → p ≢ Never }
@@ -139,7 +166,7 @@ impl Patterns {
     }
 
     /// Whether no words are of the pattern.
-    pub(crate) fn skips<S: Numbered>(&self, at: usize) -> bool
+    fn skips<S: Numbered>(&self, at: usize) -> bool
         requires graph { IsGraph self.now.nodes.items }
         requires at_in { at < length self.now.nodes.items }
         ensures { (p : Pattern S) → Denotes S.number self.now.nodes.items at p → result ≡ skips p }

@@ -87,6 +87,10 @@ lefts-grown number old new at lefts graph g k = record {
       );
 }
 
+-- what is left of nodes, where less or the same is known
+pub lefts-kept : {S : Type 0} (number : S → ℕ) (nodes : List Node) (old new : List (Option Rest)) → TellsNoMore old new → KnowsLefts number nodes old → KnowsLefts number nodes new
+lefts-kept number nodes old new tells k = record { is = λ s i v h. k.is s i v (tells (i * 64 + number s) v h) }
+
 pub starts-grown : {S C : Type 0} (number : S → ℕ) (section : C → ℕ) (pattern : C → Pattern S) (old new : List Node) (at : ℕ) (starts : List (Option ℕ)) → Grown old new at →
     KnowsStarts number section pattern old starts → KnowsStarts number section pattern new starts
 starts-grown number section pattern old new at starts g k = record {

@@ -1,5 +1,5 @@
 -- What a format supplies, and where the loop over its words stands.
-use Rattle.std.specs.Prelude.{◌≡◌, ℕ, ◌+◌, ◌*◌, ◌<◌, Bool, true, List, [], ◌∷◌, ◌++◌, length, slice_get, Option, Some, None, ◌⊎◌}
+use Rattle.std.specs.Prelude.{◌≡◌, ℕ, ◌+◌, ◌*◌, ◌<◌, ◌≤◌, Bool, true, List, [], ◌∷◌, ◌++◌, length, slice_get, Option, Some, None, ◌⊎◌}
 use Rattle.reading.specs.declared.word.Form.TheVariants.{End}
 use Rattle.reading.specs.declared.patterns.Node.{Node}
 use Rattle.reading.specs.declared.machine.Machine.{Machine}
@@ -54,9 +54,14 @@ pub record KnowsStarts {S C : Type 0} (number : S → ℕ) (section : C → ℕ)
   pub count : length starts ≡ 64
   pub is : (c : C) (v : ℕ) → slice_get starts (section c) ≡ Some (Some v) → (v < length nodes) × Denotes number nodes v (pattern c)
 
+-- Each node has a row in the table of what is left.
+abbrev pub HasRows : Machine → Type 0
+HasRows m = length m.patterns.nodes.items * 64 ≤ length m.lefts.items
+
 -- The tables of the machine are right.
 pub record IsReady {S C : Type 0} (number : S → ℕ) (section : C → ℕ) (pattern : C → Pattern S) (m : Machine) : Type 0 where
   pub graph : IsGraph m.patterns.nodes.items
+  pub rows : HasRows m
   pub lefts : KnowsLefts number m.patterns.nodes.items m.lefts.items
   pub starts : KnowsStarts number section pattern m.patterns.nodes.items m.starts.items
 

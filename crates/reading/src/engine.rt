@@ -37,6 +37,7 @@ where
         return Ok(at);
     }
     let at = machine.patterns.build(&G::rule(section))?;
+    machine.widen()?;
     machine.starts[number] = Some(at);
     Ok(at)
 }
@@ -50,7 +51,7 @@ fn behind<'a, G: Grammar<'a>>(machine: &mut Machine, sort: G::Sort) -> Result<Re
     ensures stands { IfOk result (λ rest. IsStanding G.Sort.number machine.new.patterns.nodes.items rest.node rest.standing) }
 {
     let number = sort.number();
-    if let Some(rest) = machine.known(machine.at, number) {
+    if let Some(rest) = machine.known(number) {
         return Ok(rest);
     }
     let node = machine.patterns.left(sort, machine.at)?;
@@ -58,7 +59,8 @@ fn behind<'a, G: Grammar<'a>>(machine: &mut Machine, sort: G::Sort) -> Result<Re
         node,
         standing: machine.patterns.standing::<G::Sort>(node),
     };
-    machine.note(machine.at, number, rest)?;
+    machine.widen()?;
+    machine.note(number, rest);
     Ok(rest)
 }
 

@@ -87,11 +87,19 @@ fn without(set: u64) -> u64
 
 impl Patterns {
     pub(crate) fn new(alloc: Global) -> Patterns
-        ensures { IsGraph result.nodes.items }
+        ensures graph { IsGraph result.nodes.items }
+        ensures none { length result.nodes.items ≡ 0 }
     {
         Patterns {
             nodes: Vec::new(alloc),
         }
+    }
+
+    /// How many nodes there are.
+    pub(crate) fn count(&self) -> usize
+        ensures { result ≡ length self.now.nodes.items }
+    {
+        self.nodes.len()
     }
 
     /// The place of the node, which is put at the end if it stands nowhere.
@@ -139,6 +147,7 @@ impl Patterns {
     }
 
     /// How the open unit stands where the pattern is left.
+    #[cold]
     pub(crate) fn standing<S: Numbered>(&self, at: usize) -> Standing
         requires graph { IsGraph self.now.nodes.items }
         requires at_in { at < length self.now.nodes.items }
@@ -182,6 +191,7 @@ impl Patterns {
     }
 
     /// What is left of the pattern behind a word of the sort.
+    #[cold]
     pub(crate) fn left<S: Numbered>(&mut self, sort: S, at: usize) -> Result<usize, AllocError>
         requires graph { IsGraph self.old.nodes.items }
         requires at_in { at < length self.old.nodes.items }
@@ -220,6 +230,7 @@ impl Patterns {
     }
 
     /// The place of the rule's pattern.
+    #[cold]
     pub(crate) fn build<S: Numbered>(&mut self, rule: &Rule<'_, S>) -> Result<usize, AllocError>
         requires { IsGraph self.old.nodes.items }
         ensures { IfOk result (λ at. Built S.number rule.now self.old.nodes.items self.new.nodes.items at) }

@@ -1,19 +1,17 @@
 -- What the format owes.
-use Rattle.std.proofs.Common.{◌≡◌, ℕ, Bool, true, false, List, [], ◌∷◌, ◌+◌, length, refl, inr, subst, ap, arith}
-use Rattle.outside.specs.declared.place.Place.{Place}
+use Rattle.std.proofs.Common.{◌≡◌, ℕ, Bool, true, List, [], ◌∷◌, ◌+◌, length, refl, inr, ap, arith}
 use Rattle.reading.specs.declared.word.Form.{Form}
 use Rattle.reading.specs.declared.word.Form.TheVariants.{Bare, End}
 use Rattle.reading.specs.declared.refusal.Found.{Found}
 use Rattle.reading.specs.Words.{Token}
 use Rattle.reading.specs.Left.{HasSamples}
-use Rattle.reading.specs.Grammar.{IsUnit, IsRegular}
+use Rattle.reading.specs.Grammar.{IsRegular}
 use Rattle.reading.specs.Laws.{IsImmediate, immediate}
 use Rattle.statements.specs.declared.grammar.Kind.{Kind}
 use Rattle.statements.specs.declared.sort.Sort.{Sort}
 use Rattle.statements.specs.declared.sort.Sort.TheVariants.{Set, Semicolon, Bracket, Other, TextEnd}
 use Rattle.statements.specs.declared.sort.Section.{Section}
 use Rattle.statements.specs.Sorts.{all_sorts, sort_of_word, sort_of}
-use Rattle.statements.specs.Rules.{unit}
 use Rattle.statements.specs.Statements.{pattern_of, fault_of, statements_format}
 use Rattle.std.specs.Prelude.{codes}
 

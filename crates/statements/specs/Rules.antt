@@ -2,7 +2,7 @@
 use Rattle.std.specs.Prelude.{Bool, true, false}
 use Rattle.reading.specs.Pattern.{Pattern, One, Then, Or}
 use Rattle.statements.specs.declared.sort.Sort.{Sort}
-use Rattle.statements.specs.declared.sort.Sort.TheVariants.{Set, Semicolon, Bracket, Other, TextEnd}
+use Rattle.statements.specs.declared.sort.Sort.TheVariants.{Set, Semicolon, Bracket, TextEnd}
 
 abbrev pub is_set : Sort → Bool
 is_set Set = true

@@ -1,4 +1,4 @@
-use Rattle.std.proofs.Common.{◌≡◌, ℕ, ◌+◌, List, [], ◌∷◌, ◌++◌, map, arith}
+use Rattle.std.proofs.Common.{◌≡◌, ◌+◌, List, [], ◌∷◌, ◌++◌, map, arith}
 use Rattle.reading.specs.Words.{Token, token}
 use Rattle.statements.specs.Statements.{count_in, count_of}
 use Rattle.statements.proofs.grammar.StatementsGrammar.take.Goals as goal

@@ -1,4 +1,5 @@
 -- What the format owes.
+use Rattle.std.specs.Prelude.{codes}
 use Rattle.std.proofs.Common.{◌≡◌, ℕ, Bool, true, List, [], ◌∷◌, ◌+◌, length, refl, inr, ap, arith}
 use Rattle.reading.specs.declared.word.Form.{Form}
 use Rattle.reading.specs.declared.word.Form.TheVariants.{Bare, End}
@@ -13,14 +14,13 @@ use Rattle.statements.specs.declared.sort.Sort.TheVariants.{Set, Semicolon, Brac
 use Rattle.statements.specs.declared.sort.Section.{Section}
 use Rattle.statements.specs.Sorts.{all_sorts, sort_of_word, sort_of}
 use Rattle.statements.specs.Statements.{pattern_of, fault_of, statements_format}
-use Rattle.std.specs.Prelude.{codes}
 
 -- a word of these bytes
 abbrev pub word_of : Form → List ℕ → Token
 word_of form text = record { text = text; place = record { line = 1; word = 1 }; form = form }
 
 -- each sort has words
-every : Section → Sort → Bool
+abbrev pub every : Section → Sort → Bool
 every section sort = true
 
 samples : (c : Section) → HasSamples sort_of (every c)
@@ -45,7 +45,6 @@ faults : IsImmediate statements_format
 faults = record { last = λ units. last; one = λ units. one }
 
 pub regular : IsRegular all_sorts pattern_of statements_format
-unfolding every
 regular = record {
   usable = every;
   samples = λ units c follows. samples c;

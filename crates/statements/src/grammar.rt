@@ -13,7 +13,7 @@ use reading::{Form, Found, Grammar, Rule, Word};
 use std::alloc::AllocError;
 
 /// What is wrong with a statement.
-#[derive(Clone, Copy, Debug, PartialEq, Eq, Drop)]
+#[derive(Clone, Copy, Debug, PartialEq, Eq)]
 pub enum Kind {
     /// The number is not written with digits alone.
     NotWhole,
@@ -49,6 +49,20 @@ fn is_whole(text: &[u8]) -> bool
     ensures { result ≡ whole text.now }
 {
     !text.is_empty() && has_only_digits(text)
+}
+
+/// The fault of the number of a statement.
+fn not_whole(number: &Word<'_>) -> Option<Found<Kind>>
+    ensures none { IfNone result (whole number.now.text.now ≡ true) }
+    ensures some { IfSome result (λ a. (whole number.now.text.now ≡ false) × (a ≡ record { at = 2; kind = Kind.NotWhole })) }
+{
+    if is_whole(number.text) {
+        return None;
+    }
+    Some(Found {
+        at: 2,
+        kind: Kind::NotWhole,
+    })
 }
 
 /// One for a statement, and none for the end of the text.
@@ -112,18 +126,4 @@ impl<'a> Grammar<'a> for Statements {
     fn regular(&self)
         ensures { IsRegular all_sorts pattern_of statements_format }
     {}
-}
-
-/// The fault of the number of a statement.
-fn not_whole(number: &Word<'_>) -> Option<Found<Kind>>
-    ensures none { IfNone result (whole number.now.text.now ≡ true) }
-    ensures some { IfSome result (λ a. (whole number.now.text.now ≡ false) × (a ≡ record { at = 2; kind = Kind.NotWhole })) }
-{
-    if is_whole(number.text) {
-        return None;
-    }
-    Some(Found {
-        at: 2,
-        kind: Kind::NotWhole,
-    })
 }

@@ -4,6 +4,7 @@ pub mod Left
 pub mod Rest
 pub mod Graph
 pub mod Bits
+pub mod Standing
 pub mod Tables
 pub mod Stepping
 pub mod Loop

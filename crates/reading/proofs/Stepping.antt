@@ -8,17 +8,19 @@ use Rattle.reading.specs.declared.word.Word.{Word}
 use Rattle.reading.specs.declared.refusal.Found.{Found}
 use Rattle.reading.specs.declared.patterns.Node.{Node}
 use Rattle.reading.specs.declared.machine.Machine.{Machine}
+use Rattle.reading.specs.declared.machine.Rest.{Rest}
 use Rattle.reading.specs.Pattern.{Pattern, Never, Matches, Begins}
 use Rattle.reading.specs.Left.{skips, lefts, IsEach}
 use Rattle.reading.specs.Graph.{IsGraph, Denotes, Grown, Leaves}
+use Rattle.reading.specs.Standing.{IsStanding}
 use Rattle.reading.specs.Reading.{Format, IsFine}
 use Rattle.reading.specs.Words.{Token, token, place_in}
 use Rattle.reading.specs.Taking.{GoesOn, Closes, Faulty}
-use Rattle.reading.specs.Grammar.{IsRegular, NoneShows, IsTaken, KnowsLefts, KnowsStarts, IsReady, KeepsOthers, Notes, StartsAt, StandsAt}
+use Rattle.reading.specs.Grammar.{IsRegular, NoneShows, IsTaken, KnowsLefts, KnowsStarts, HasRows, IsReady, KeepsOthers, TellsNoMore, Notes, StartsAt, StandsAt}
 use Rattle.reading.proofs.Left.{closed}
 use Rattle.reading.proofs.Graph.{length-extends}
 use Rattle.reading.proofs.Rest.{last, lefts-more, rest-never, rest-some, rest-skips, rest-goes_on}
-use Rattle.reading.proofs.Tables.{denotes-before, lefts-grown, starts-grown, lefts-noted, starts-noted}
+use Rattle.reading.proofs.Tables.{denotes-before, lefts-grown, lefts-kept, starts-grown, lefts-noted, starts-noted}
 
 -- each value stands at its number
 abbrev pub IsListed : {X : Type 0} → (X → ℕ) → List X → Type 0
@@ -36,32 +38,57 @@ known-start number section pattern nodes starts c i at r k e lt read is =
     let there : slice_get starts i ≡ Some r = slice_get_read starts (length starts) i r refl lt read in
     k.is c at (subst (λ z. slice_get starts z ≡ Some (Some at)) e (there ∙ ap (λ z. Some z) is))
 
-pub ready-started : {S C : Type 0} (number : S → ℕ) (section : C → ℕ) (pattern : C → Pattern S) (all : List C) (old new : Machine) (c : C) (i at : ℕ) → IsListed section all →
-    IsReady number section pattern old → Grown old.patterns.nodes.items new.patterns.nodes.items at → Denotes number new.patterns.nodes.items at (pattern c) →
-    i ≡ section c → new.lefts ≡ old.lefts → new.starts.items ≡ set old.starts.items i (Some at) → IsReady number section pattern new
-ready-started number section pattern all old new c i at listed r g d e l s = record {
-  graph = g.graph;
-  lefts = subst (λ z. KnowsLefts number new.patterns.nodes.items z.items) (sym l) (lefts-grown number _ _ at old.lefts.items r.graph g r.lefts);
-  starts = starts-noted number section pattern all new.patterns.nodes.items old.starts.items new.starts.items c at listed
-      (starts-grown number section pattern _ _ at old.starts.items g r.starts) g.within d (s ∙ ap (λ z. set old.starts.items z (Some at)) e);
-}
-
-pub ready-noted : {S C : Type 0} (number : S → ℕ) (section : C → ℕ) (pattern : C → Pattern S) (all : List S) (m one two : Machine) (sort : S) (i rest : ℕ) → IsListed number all →
-    length all ≤ 64 → IsReady number section pattern m → m.at < length m.patterns.nodes.items →
-    Leaves number sort m.patterns.nodes.items one.patterns.nodes.items m.at rest → one.lefts ≡ m.lefts → one.starts ≡ m.starts → i ≡ number sort →
-    Notes one.lefts.items two.lefts.items (m.at * 64 + i) rest → KeepsOthers one two → IsReady number section pattern two
-ready-noted number section pattern all m one two sort i rest listed few r within l left_same starts_same e n k =
-    let grown = l.grown in
-    let lefts = lefts-noted number all one.patterns.nodes.items one.lefts.items two.lefts.items sort m.at rest listed few
-    (subst (λ z. KnowsLefts number one.patterns.nodes.items z.items) (sym left_same) (lefts-grown number _ _ rest m.lefts.items r.graph grown r.lefts))
-    (omega (arith, within, length-extends _ _ grown.extends)) grown.within
-    (λ p d. l.is p (denotes-before number _ _ r.graph grown.extends m.at p within d))
-    (subst (λ z. Notes one.lefts.items two.lefts.items (m.at * 64 + z) rest) e n) in
-    let starts = subst (λ z. KnowsStarts number section pattern one.patterns.nodes.items z.items) (sym starts_same) (starts-grown number section pattern _ _ rest m.starts.items grown r.starts) in
+-- more patterns, and then rows for them
+ready-wide : {S C : Type 0} (number : S → ℕ) (section : C → ℕ) (pattern : C → Pattern S) (m one wide : Machine) (at : ℕ) → IsReady number section pattern m →
+    Grown m.patterns.nodes.items one.patterns.nodes.items at → one.lefts ≡ m.lefts → one.starts ≡ m.starts →
+    HasRows wide → TellsNoMore one.lefts.items wide.lefts.items → KeepsOthers one wide → IsReady number section pattern wide
+ready-wide number section pattern m one wide at r g left_same starts_same rows tells w =
+    let lefts = subst (λ z. KnowsLefts number one.patterns.nodes.items z.items) (sym left_same) (lefts-grown number _ _ at m.lefts.items r.graph g r.lefts) in
+    let starts = subst (λ z. KnowsStarts number section pattern one.patterns.nodes.items z.items) (sym starts_same) (starts-grown number section pattern _ _ at m.starts.items g r.starts) in
     record {
-      graph = subst (λ z. IsGraph z.nodes.items) (sym k.patterns) grown.graph;
-      lefts = subst (λ z. KnowsLefts number z.nodes.items two.lefts.items) (sym k.patterns) lefts;
-      starts = subst (λ z. KnowsStarts number section pattern z.nodes.items two.starts.items) (sym k.patterns) (subst (λ z. KnowsStarts number section pattern one.patterns.nodes.items z.items) (sym k.starts) starts);
+      graph = subst (λ z. IsGraph z.nodes.items) (sym w.patterns) g.graph;
+      rows = rows;
+      lefts = subst (λ z. KnowsLefts number z.nodes.items wide.lefts.items) (sym w.patterns) (lefts-kept number _ _ _ tells lefts);
+      starts = subst (λ z. KnowsStarts number section pattern z.nodes.items wide.starts.items) (sym w.patterns) (subst (λ z. KnowsStarts number section pattern one.patterns.nodes.items z.items) (sym w.starts) starts);
+    }
+
+pub ready-started : {S C : Type 0} (number : S → ℕ) (section : C → ℕ) (pattern : C → Pattern S) (all : List C) (m one wide two : Machine) (c : C) (i at : ℕ) → IsListed section all →
+    IsReady number section pattern m → Grown m.patterns.nodes.items one.patterns.nodes.items at → Denotes number one.patterns.nodes.items at (pattern c) →
+    one.lefts ≡ m.lefts → one.starts ≡ m.starts → i ≡ section c → HasRows wide → TellsNoMore one.lefts.items wide.lefts.items → KeepsOthers one wide →
+    two.patterns ≡ wide.patterns → two.lefts ≡ wide.lefts → two.starts.items ≡ set wide.starts.items i (Some at) → IsReady number section pattern two
+ready-started number section pattern all m one wide two c i at listed r g d left_same starts_same e rows tells w patterns lefts s =
+    let ready = ready-wide number section pattern m one wide at r g left_same starts_same rows tells w in
+    let within = subst (λ z. at < length z.nodes.items) (sym w.patterns) g.within in
+    let there = subst (λ z. Denotes number z.nodes.items at (pattern c)) (sym w.patterns) d in
+    let starts = starts-noted number section pattern all wide.patterns.nodes.items wide.starts.items two.starts.items c at listed ready.starts within there (s ∙ ap (λ z. set wide.starts.items z (Some at)) e) in
+    record {
+      graph = subst (λ z. IsGraph z.nodes.items) (sym patterns) ready.graph;
+      rows = subst (λ z. length z.nodes.items * 64 ≤ length two.lefts.items) (sym patterns) (subst (λ z. length wide.patterns.nodes.items * 64 ≤ length z.items) (sym lefts) rows);
+      lefts = subst (λ z. KnowsLefts number z.nodes.items two.lefts.items) (sym patterns) (subst (λ z. KnowsLefts number wide.patterns.nodes.items z.items) (sym lefts) ready.lefts);
+      starts = subst (λ z. KnowsStarts number section pattern z.nodes.items two.starts.items) (sym patterns) starts;
+    }
+
+-- what one more node leads to, where rows are made
+pub grown-wide : (old : List Node) (one wide : Machine) (at : ℕ) → Grown old one.patterns.nodes.items at → KeepsOthers one wide → Grown old wide.patterns.nodes.items at
+grown-wide old one wide at g w = subst (λ z. Grown old z.nodes.items at) (sym w.patterns) g
+
+pub ready-noted : {S C : Type 0} (number : S → ℕ) (section : C → ℕ) (pattern : C → Pattern S) (all : List S) (m one wide two : Machine) (sort : S) (i : ℕ) (rest : Rest) → IsListed number all →
+    length all ≤ 64 → IsReady number section pattern m → m.at < length m.patterns.nodes.items →
+    Leaves number sort m.patterns.nodes.items one.patterns.nodes.items m.at rest.node → IsStanding number one.patterns.nodes.items rest.node rest.standing →
+    one.lefts ≡ m.lefts → one.starts ≡ m.starts → one.at ≡ m.at → i ≡ number sort → HasRows wide → TellsNoMore one.lefts.items wide.lefts.items → KeepsOthers one wide →
+    Notes wide.lefts.items two.lefts.items (wide.at * 64 + i) rest → length two.lefts.items ≡ length wide.lefts.items → KeepsOthers wide two → IsReady number section pattern two
+ready-noted number section pattern all m one wide two sort i rest listed few r within l stands left_same starts_same at_same e rows tells w n count k =
+    let ready = ready-wide number section pattern m one wide rest.node r l.grown left_same starts_same rows tells w in
+    let known = subst (λ z. KnowsLefts number z.nodes.items wide.lefts.items) w.patterns ready.lefts in
+    let noted = subst (λ z. Notes wide.lefts.items two.lefts.items (m.at * 64 + z) rest) e (subst (λ z. Notes wide.lefts.items two.lefts.items (z * 64 + i) rest) (w.at ∙ at_same) n) in
+    let lefts = lefts-noted number all one.patterns.nodes.items wide.lefts.items two.lefts.items sort m.at rest listed few known
+    (omega (arith, within, length-extends _ _ l.grown.extends)) l.grown.within
+    (λ p d. l.is p (denotes-before number _ _ r.graph l.grown.extends m.at p within d)) stands noted in
+    record {
+      graph = subst (λ z. IsGraph z.nodes.items) (sym k.patterns) ready.graph;
+      rows = subst (λ z. length z.nodes.items * 64 ≤ length two.lefts.items) (sym k.patterns) (subst (λ z. length wide.patterns.nodes.items * 64 ≤ z) (sym count) rows);
+      lefts = subst (λ z. KnowsLefts number z.nodes.items two.lefts.items) (sym k.patterns) (subst (λ z. KnowsLefts number z.nodes.items two.lefts.items) (sym w.patterns) lefts);
+      starts = subst (λ z. KnowsStarts number section pattern z.nodes.items two.starts.items) (sym k.patterns) (subst (λ z. KnowsStarts number section pattern wide.patterns.nodes.items z.items) (sym k.starts) ready.starts);
     }
 
 -- ## the word

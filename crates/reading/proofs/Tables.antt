@@ -5,23 +5,25 @@ use Rattle.reading.specs.declared.patterns.Node.TheVariants as nodes
 use Rattle.reading.specs.Pattern.{Pattern, Never, Empty, One, Then, Or, Many}
 use Rattle.reading.specs.Left.{left}
 use Rattle.reading.specs.Graph.{IsGraph, Extends, Grown, Denotes}
+use Rattle.reading.specs.Standing.{IsStanding}
+use Rattle.reading.specs.declared.machine.Rest.{Rest}
 use Rattle.reading.specs.Grammar.{IsUnknown, TellsNoMore, Notes, KnowsLefts, KnowsStarts}
 use Rattle.reading.proofs.Bits.{number-below}
 use Rattle.reading.proofs.Graph.{get-either, denotes-extends, length-extends}
 
-pub unknown-none : IsUnknown []
-unknown-none = λ k x h. let t : None ≡ Some (Some x) = h in cc
+pub unknown-none : {X : Type 0} → IsUnknown {X = X} []
+unknown-none {X} = λ k x h. let t : None ≡ Some (Some x) = h in cc
 
-pub tells-more : (table : List (Option ℕ)) → TellsNoMore table (table ++ None ∷ [])
+pub tells-more : {X : Type 0} (table : List (Option X)) → TellsNoMore table (table ++ None ∷ [])
 tells-more table = λ k x h. elim (get-either table None (Some x) k h) [
   | inl t ↦ t
   | inr t ↦ let e : None ≡ Some x = t.1 in cc
 ]
 
-pub unknown-more : (table new : List (Option ℕ)) → IsUnknown table → new ≡ table ++ None ∷ [] → IsUnknown new
+pub unknown-more : {X : Type 0} (table new : List (Option X)) → IsUnknown table → new ≡ table ++ None ∷ [] → IsUnknown new
 unknown-more table new h e = λ k x g. h k x (tells-more table k x (subst (λ z. slice_get z k ≡ Some (Some x)) e g))
 
-pub tells-then : (old table new : List (Option ℕ)) → TellsNoMore old table → new ≡ table ++ None ∷ [] → TellsNoMore old new
+pub tells-then : {X : Type 0} (old table new : List (Option X)) → TellsNoMore old table → new ≡ table ++ None ∷ [] → TellsNoMore old new
 tells-then old table new h e = λ k x g. h k x (tells-more table k x (subst (λ z. slice_get z k ≡ Some (Some x)) e g))
 
 get-set : {X : Type 0} (xs : List X) (key k : ℕ) (v x : X) → slice_get (set xs key v) k ≡ Some x → (slice_get xs k ≡ Some x) ⊎ ((k ≡ key) × (v ≡ x))
@@ -34,13 +36,13 @@ get-set (y ∷ xs) (suc key) (suc k) v x h = elim (get-set xs key k v x h) [
   | inr t ↦ inr (ap (λ n. suc n) t.0, t.1)
 ]
 
-pub noted : (old table new : List (Option ℕ)) (key v : ℕ) → TellsNoMore old table → new ≡ set table key (Some v) → Notes old new key v
+pub noted : {X : Type 0} (old table new : List (Option X)) (key : ℕ) (v : X) → TellsNoMore old table → new ≡ set table key (Some v) → Notes old new key v
 noted old table new key v h e = λ k x g. elim (get-set table key k (Some v) (Some x) (subst (λ z. slice_get z k ≡ Some (Some x)) e g)) [
   | inl t ↦ inl (h k x t)
   | inr t ↦ inr (t.0, (let q : Some v ≡ Some x = t.1 in cc))
 ]
 
-pub noted-none : (old new : List (Option ℕ)) (key v : ℕ) → new ≡ old → Notes old new key v
+pub noted-none : {X : Type 0} (old new : List (Option X)) (key : ℕ) (v : X) → new ≡ old → Notes old new key v
 noted-none old new key v e = λ k x g. inl (subst (λ z. slice_get z k ≡ Some (Some x)) e g)
 
 -- ## what was so in fewer nodes
@@ -73,16 +75,21 @@ denotes-before number old new g h at (Many p) lt d =
 
 -- ## tables when the patterns grow
 
-pub lefts-grown : {S : Type 0} (number : S → ℕ) (old new : List Node) (at : ℕ) (lefts : List (Option ℕ)) → IsGraph old → Grown old new at →
+pub lefts-grown : {S : Type 0} (number : S → ℕ) (old new : List Node) (at : ℕ) (lefts : List (Option Rest)) → IsGraph old → Grown old new at →
     KnowsLefts number old lefts → KnowsLefts number new lefts
 lefts-grown number old new at lefts graph g k = record {
   is = λ s i v h.
       let t = k.is s i v h in (
         omega (arith, t.0, length-extends old new g.extends),
         omega (arith, t.1, length-extends old new g.extends),
-        λ p d. denotes-extends number old new g.extends v (left s p) (t.2 p (denotes-before number old new graph g.extends i p t.0 d)),
+        λ p d. denotes-extends number old new g.extends v.node (left s p) (t.2 p (denotes-before number old new graph g.extends i p t.0 d)),
+        λ p d. t.3 p (denotes-before number old new graph g.extends v.node p t.1 d),
       );
 }
+
+-- what is left of nodes, where less or the same is known
+pub lefts-kept : {S : Type 0} (number : S → ℕ) (nodes : List Node) (old new : List (Option Rest)) → TellsNoMore old new → KnowsLefts number nodes old → KnowsLefts number nodes new
+lefts-kept number nodes old new tells k = record { is = λ s i v h. k.is s i v (tells (i * 64 + number s) v h) }
 
 pub starts-grown : {S C : Type 0} (number : S → ℕ) (section : C → ℕ) (pattern : C → Pattern S) (old new : List Node) (at : ℕ) (starts : List (Option ℕ)) → Grown old new at →
     KnowsStarts number section pattern old starts → KnowsStarts number section pattern new starts
@@ -100,10 +107,11 @@ same-key i j m n h k e = (omega arith, omega arith)
 pub same-number : {X : Type 0} (number : X → ℕ) (all : List X) → ((x : X) → slice_get all (number x) ≡ Some x) → (x y : X) → number x ≡ number y → x ≡ y
 same-number number all h x y e = let t : Some x ≡ Some y = sym (h x) ∙ ap (λ z. slice_get all z) e ∙ h y in cc
 
-pub lefts-noted : {S : Type 0} (number : S → ℕ) (all : List S) (list : List Node) (old new : List (Option ℕ)) (sort : S) (at rest : ℕ) →
-    ((x : S) → slice_get all (number x) ≡ Some x) → length all ≤ 64 → KnowsLefts number list old → at < length list → rest < length list →
-    ((p : Pattern S) → Denotes number list at p → Denotes number list rest (left sort p)) → Notes old new (at * 64 + number sort) rest → KnowsLefts number list new
-lefts-noted {S} number all list old new sort at rest listed few k a r f n = record {
+pub lefts-noted : {S : Type 0} (number : S → ℕ) (all : List S) (list : List Node) (old new : List (Option Rest)) (sort : S) (at : ℕ) (rest : Rest) →
+    ((x : S) → slice_get all (number x) ≡ Some x) → length all ≤ 64 → KnowsLefts number list old → at < length list → rest.node < length list →
+    ((p : Pattern S) → Denotes number list at p → Denotes number list rest.node (left sort p)) → IsStanding number list rest.node rest.standing →
+    Notes old new (at * 64 + number sort) rest → KnowsLefts number list new
+lefts-noted {S} number all list old new sort at rest listed few k a r f stands n = record {
   is = λ s i v h. elim (n (i * 64 + number s) v h) [
     | inl t ↦ k.is s i v t
     | inr t ↦
@@ -112,9 +120,10 @@ lefts-noted {S} number all list old new sort at rest listed few k a r f n = reco
         let at_is : i ≡ at = e.0 in
         let rest_is : v ≡ rest = t.1 in (
           omega arith,
-          omega arith,
+          subst (λ z. z.node < length list) (sym rest_is) r,
           λ p d.
-              subst (λ z. Denotes number list z (left s p)) (sym rest_is) (subst (λ z. Denotes number list rest (left z p)) (sym same) (f p (subst (λ z. Denotes number list z p) at_is d))),
+              subst (λ z. Denotes number list z.node (left s p)) (sym rest_is) (subst (λ z. Denotes number list rest.node (left z p)) (sym same) (f p (subst (λ z. Denotes number list z p) at_is d))),
+          subst (λ z. IsStanding number list z.node z.standing) (sym rest_is) stands,
         )
   ];
 }
@@ -133,7 +142,7 @@ starts-noted {S} {C} number section pattern all list old new c at listed k withi
   ];
 }
 
-pub lefts-unknown : {S : Type 0} (number : S → ℕ) (list : List Node) (lefts : List (Option ℕ)) → IsUnknown lefts → KnowsLefts number list lefts
+pub lefts-unknown : {S : Type 0} (number : S → ℕ) (list : List Node) (lefts : List (Option Rest)) → IsUnknown lefts → KnowsLefts number list lefts
 lefts-unknown number list lefts u = record { is = λ s i v h. absurd (u (i * 64 + number s) v h) }
 
 pub starts-unknown : {S C : Type 0} (number : S → ℕ) (section : C → ℕ) (pattern : C → Pattern S) (list : List Node) (starts : List (Option ℕ)) → IsUnknown starts → length starts ≡ 64 →

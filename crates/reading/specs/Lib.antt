@@ -4,5 +4,6 @@ pub mod Reading
 pub mod Words
 pub mod Taking
 pub mod Graph
+pub mod Standing
 pub mod Grammar
 pub mod Laws

@@ -2,12 +2,14 @@
 ghost use Rattle.std.specs.Prelude.{◌≡◌, ◌<◌, ◌∷◌, ◌++◌, List, [], IfOk, OnOk, length, map, None, Some};
 ghost use Rattle.reading.specs.Words.{Token, token, place_in, IsWhole};
 ghost use Rattle.reading.specs.Graph.{Grown, Leaves};
+ghost use Rattle.reading.specs.Standing.{IsStanding};
 ghost use Rattle.reading.specs.Grammar.{IsReady, IsOpen, StartsAt, Stands, StandsAt};
 ghost use Rattle.reading.specs.Taking.{Takes, part_behind, Gives};
 
 use crate::grammar::Grammar;
-use crate::machine::Machine;
+use crate::machine::{Machine, Rest};
 use crate::numbered::Numbered;
+use crate::patterns::Standing;
 use crate::refusal::{Cause, Refusal};
 use crate::source::Source;
 use crate::stop::{Step, Stop, refused};
@@ -35,23 +37,30 @@ where
         return Ok(at);
     }
     let at = machine.patterns.build(&G::rule(section))?;
+    machine.widen()?;
     machine.starts[number] = Some(at);
     Ok(at)
 }
 
-/// The node of what is left behind a word of the sort.
-fn behind<'a, G: Grammar<'a>>(machine: &mut Machine, sort: G::Sort) -> Result<usize, AllocError>
+/// What is left behind a word of the sort.
+fn behind<'a, G: Grammar<'a>>(machine: &mut Machine, sort: G::Sort) -> Result<Rest, AllocError>
     requires ready { IsReady G.Sort.number G.Section.number G.pattern machine.old }
     requires within { machine.old.at < length machine.old.patterns.nodes.items }
     ensures ready { OnOk result (IsReady G.Sort.number G.Section.number G.pattern machine.new) }
-    ensures is { IfOk result (λ rest. Leaves G.Sort.number sort machine.old.patterns.nodes.items machine.new.patterns.nodes.items machine.old.at rest) }
+    ensures is { IfOk result (λ rest. Leaves G.Sort.number sort machine.old.patterns.nodes.items machine.new.patterns.nodes.items machine.old.at rest.node) }
+    ensures stands { IfOk result (λ rest. IsStanding G.Sort.number machine.new.patterns.nodes.items rest.node rest.standing) }
 {
     let number = sort.number();
-    if let Some(rest) = machine.known(machine.at, number) {
+    if let Some(rest) = machine.known(number) {
         return Ok(rest);
     }
-    let rest = machine.patterns.left(sort, machine.at)?;
-    machine.note(machine.at, number, rest)?;
+    let node = machine.patterns.left(sort, machine.at)?;
+    let rest = Rest {
+        node,
+        standing: machine.patterns.standing::<G::Sort>(node),
+    };
+    machine.widen()?;
+    machine.note(number, rest);
     Ok(rest)
 }
 
@@ -88,14 +97,14 @@ where
         Ok(rest) => rest,
         Err(_) => return Err(Stop::Want),
     };
-    if machine.patterns.is_never::<G::Sort>(rest) {
+    if rest.standing == Standing::Nowhere {
         return Err(Stop::Syntax);
     }
     if let Some(found) = grammar.fault(said, unit) {
         return Err(Stop::Fault(place_at(unit, found.at), found.kind));
     }
-    if !machine.patterns.skips::<G::Sort>(rest) {
-        machine.at = rest;
+    if rest.standing == Standing::Open {
+        machine.at = rest.node;
         return Ok(Step::Open);
     }
     match grammar.take(said, unit) {

@@ -2,11 +2,23 @@
 ghost use Rattle.std.specs.Prelude.{◌≡◌, ◌≢◌, ◌<◌, IfOk, IsTrue, length, true, false};
 ghost use Rattle.reading.specs.Pattern.{Pattern, Never};
 ghost use Rattle.reading.specs.Left.{skips, seq, alt, left};
+ghost use Rattle.reading.specs.Standing.{IsStanding};
 ghost use Rattle.reading.specs.Graph.{IsGraph, PartsBelow, Placed, Joins, Leaves, Denotes, IsSet, among, IsWith, IsWithout, listed_in, Built};
 
 use crate::numbered::Numbered;
 use crate::rule::Rule;
 use std::alloc::{AllocError, Global};
+
+/// How the open unit stands where some pattern is left of its own.
+#[derive(Clone, Copy, Debug, PartialEq, Eq)]
+pub(crate) enum Standing {
+    /// The unit's words so far begin no unit.
+    Nowhere,
+    /// The unit goes on.
+    Open,
+    /// The unit is whole.
+    Whole,
+}
 
 /// A pattern whose parts stand earlier in the list.
 #[derive(Clone, Copy, Debug, PartialEq, Eq)]
@@ -75,11 +87,19 @@ fn without(set: u64) -> u64
 
 impl Patterns {
     pub(crate) fn new(alloc: Global) -> Patterns
-        ensures { IsGraph result.nodes.items }
+        ensures graph { IsGraph result.nodes.items }
+        ensures none { length result.nodes.items ≡ 0 }
     {
         Patterns {
             nodes: Vec::new(alloc),
         }
+    }
+
+    /// How many nodes there are.
+    pub(crate) fn count(&self) -> usize
+        ensures { result ≡ length self.now.nodes.items }
+    {
+        self.nodes.len()
     }
 
     /// The place of the node, which is put at the end if it stands nowhere.
@@ -126,8 +146,24 @@ impl Patterns {
         }
     }
 
+    /// How the open unit stands where the pattern is left.
+    #[cold]
+    pub(crate) fn standing<S: Numbered>(&self, at: usize) -> Standing
+        requires graph { IsGraph self.now.nodes.items }
+        requires at_in { at < length self.now.nodes.items }
+        ensures { IsStanding S.number self.now.nodes.items at result }
+    {
+        if self.is_never::<S>(at) {
+            Standing::Nowhere
+        } else if self.skips::<S>(at) {
+            Standing::Whole
+        } else {
+            Standing::Open
+        }
+    }
+
     /// Whether the pattern is that of no list of words.
-    pub(crate) fn is_never<S: Numbered>(&self, at: usize) -> bool
+    fn is_never<S: Numbered>(&self, at: usize) -> bool
         requires { at < length self.now.nodes.items }
         ensures never { (p : Pattern S) → Denotes S.number self.now.nodes.items at p → result ≡ true → p ≡ Never }
         ensures some { (p : Pattern S) → Denotes S.number self.now.nodes.items at p → result ≡ false → p ≢ Never }
@@ -139,7 +175,7 @@ impl Patterns {
     }
 
     /// Whether no words are of the pattern.
-    pub(crate) fn skips<S: Numbered>(&self, at: usize) -> bool
+    fn skips<S: Numbered>(&self, at: usize) -> bool
         requires graph { IsGraph self.now.nodes.items }
         requires at_in { at < length self.now.nodes.items }
         ensures { (p : Pattern S) → Denotes S.number self.now.nodes.items at p → result ≡ skips p }
@@ -155,6 +191,7 @@ impl Patterns {
     }
 
     /// What is left of the pattern behind a word of the sort.
+    #[cold]
     pub(crate) fn left<S: Numbered>(&mut self, sort: S, at: usize) -> Result<usize, AllocError>
         requires graph { IsGraph self.old.nodes.items }
         requires at_in { at < length self.old.nodes.items }
@@ -193,6 +230,7 @@ impl Patterns {
     }
 
     /// The place of the rule's pattern.
+    #[cold]
     pub(crate) fn build<S: Numbered>(&mut self, rule: &Rule<'_, S>) -> Result<usize, AllocError>
         requires { IsGraph self.old.nodes.items }
         ensures { IfOk result (λ at. Built S.number rule.now self.old.nodes.items self.new.nodes.items at) }

@@ -9,7 +9,7 @@ pub loop-word-init : goal.loop-word-init
 loop-word-init g c =
     let stands = stands-first g.G.Sort.Numbered.number g.G.Grammar.pattern (g.G.Grammar.format c.args.grammar.now) (g.G.Grammar.holds c.args.grammar.now c.args.said.now) _ c.in-Ok-start.at c.requires.start c.in-Ok-start.ensures.is in
     record {
-      ready = record { graph = c.in-Ok-start.ensures.ready.graph; lefts = c.in-Ok-start.ensures.ready.lefts; starts = c.in-Ok-start.ensures.ready.starts };
+      ready = record { graph = c.in-Ok-start.ensures.ready.graph; rows = c.in-Ok-start.ensures.ready.rows; lefts = c.in-Ok-start.ensures.ready.lefts; starts = c.in-Ok-start.ensures.ready.starts };
       within = c.in-Ok-start.ensures.grown.within;
       at = subst (λ z. AtLoop (g.G.Grammar.format c.args.grammar.now) (StandsAt g.G.Sort.Numbered.number g.G.Grammar.pattern (g.G.Grammar.format c.args.grammar.now) (g.G.Grammar.holds c.args.grammar.now c.args.said.now) c.start.new.machine.patterns.nodes.items c.in-Ok-start.at) (g.I.Source.left c.args.source.now) (g.I.Source.left c.args.source.now) (map token z)) (sym c.new-unit.ensures.items) (loop-start (g.G.Grammar.format c.args.grammar.now) (StandsAt g.G.Sort.Numbered.number g.G.Grammar.pattern (g.G.Grammar.format c.args.grammar.now) (g.G.Grammar.holds c.args.grammar.now c.args.said.now) c.start.new.machine.patterns.nodes.items c.in-Ok-start.at) (g.I.Source.left c.args.source.now) stands);
     }

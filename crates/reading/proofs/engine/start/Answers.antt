@@ -23,5 +23,5 @@ returns-in-Some-clause-is g c =
 
 pub returns-clause-ready : goal.returns-clause-ready
 returns-clause-ready g c =
-    ready-started g.G.Sort.Numbered.number g.G.Section.Numbered.number g.G.Grammar.pattern g.G.Section.Numbered.all c.args.machine.now _ c.section-section.result _ _ g.met.G.Section.Numbered.listed
-    c.requires c.in_ok-at.ensures.grown (c.in_ok-at.ensures.is _ c.rule.ensures) c.number-number.ensures refl refl
+    ready-started g.G.Sort.Numbered.number g.G.Section.Numbered.number g.G.Grammar.pattern g.G.Section.Numbered.all c.args.machine.now _ _ _ c.section-section.result _ _ g.met.G.Section.Numbered.listed
+    c.requires c.in_ok-at.ensures.grown (c.in_ok-at.ensures.is _ c.rule.ensures) refl refl c.number-number.ensures c.in_ok-widen.ensures.rows c.in_ok-widen.ensures.lefts c.in_ok-widen.ensures.others refl refl refl

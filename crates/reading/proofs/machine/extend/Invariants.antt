@@ -1,4 +1,4 @@
-use Rattle.std.proofs.Common.{◌+◌, ◌-◌, length}
+use Rattle.std.proofs.Common.{◌-◌, length}
 use Rattle.reading.specs.Grammar.{TellsNoMore}
 use Rattle.reading.proofs.machine.extend.Given as goal
 
@@ -6,4 +6,4 @@ abbrev pub invariant-loop-table : goal.invariant-loop-table
 invariant-loop-table l = TellsNoMore l.initial.table.items l.table.items
 
 abbrev pub decreases-loop-table : goal.decreases-loop-table
-decreases-loop-table l = l.key + 1 - length l.table.items
+decreases-loop-table l = l.count - length l.table.items

@@ -1,0 +1,5 @@
+pub mod Sorts
+pub mod Numbers
+pub mod Rules
+pub mod Statements
+pub mod Law

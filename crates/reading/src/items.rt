@@ -7,6 +7,7 @@ ghost use Rattle.text_lex.specs.Split.{token_of};
 
 use crate::engine::read_words;
 use crate::grammar::Grammar;
+use crate::reader::{Reader, read_by_hand};
 use crate::refusal::Refusal;
 use crate::source::Source;
 use crate::word::{Form, Word};
@@ -94,4 +95,23 @@ where
         ended: false,
     };
     read_words(alloc, grammar, said, &mut items)
+}
+
+/// Reads a text by a reader that is written by hand, or says at which word it is refused, and why.
+pub fn read_text_by_hand<'a, R: Reader<'a>>(
+    reader: &mut R,
+    text: &'a [u8],
+    mode: Mode,
+) -> Result<(), Refusal<R::Kind>>
+    requires { R.stands reader.old [] [] }
+    ensures reads { Reads mode text.now R.format (λ units. R.stands reader.new units []) result }
+
+    // In lines no word is refused for itself, and in LEF and DEF none for a substitution.
+    ensures lex { IfErr result (λ refusal. FitsMode mode refusal) }
+{
+    let mut items = Items {
+        words: Words::new(text, mode),
+        ended: false,
+    };
+    read_by_hand(reader, &mut items)
 }

@@ -17,7 +17,7 @@ mod word;
 
 pub use engine::read_words;
 pub use grammar::Grammar;
-pub use items::read_text;
+pub use items::{read_text, read_text_by_hand};
 pub use laws::texts_have_one_result;
 pub use numbered::Numbered;
 pub use reader::{Reader, read_by_hand};

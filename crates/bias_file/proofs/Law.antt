@@ -2,7 +2,7 @@
 use Rattle.std.proofs.Common.{◌≡◌, ℕ, ◌+◌, ◌^◌, Bool, true, List, [], ◌∷◌, length, codes, Result, ℤ, refl, sym, ◌∙◌, ap, inl, inr}
 use Rattle.bias_file.specs.declared.error.BiasKind.{BiasKind}
 use Rattle.bias_file.specs.declared.section.Section.{Section}
-use Rattle.bias_file.specs.declared.section.Section.TheVariants.{Lines, Remark, Nothing}
+use Rattle.bias_file.specs.declared.section.Section.TheVariants.{LineStart, Remark, Nothing}
 use Rattle.bias_file.specs.declared.sort.Sort.{Sort}
 use Rattle.bias_file.specs.declared.sort.Sort.TheVariants.{Supply, DropLimit, Pad, Cell, Instance, Mark, Comment, Other, LineEnd, TextEnd}
 use Rattle.bias_file.specs.Sorts.{all_sorts, sort_of, sort_with}
@@ -42,7 +42,7 @@ usable section sort = true
 
 units_end : (section : Section) → IsUnit all_sorts (usable section) TextEnd (pattern section)
 unfolding usable
-units_end Lines = record { solid = inr refl; closes = refl; comes_last = refl }
+units_end LineStart = record { solid = inr refl; closes = refl; comes_last = refl }
 units_end Remark = record { solid = inr refl; closes = refl; comes_last = refl }
 units_end Nothing = record { solid = inl refl; closes = refl; comes_last = refl }
 

@@ -5,3 +5,4 @@ pub mod Showing
 pub mod Taking
 pub mod Reading
 pub mod One
+pub mod Limits

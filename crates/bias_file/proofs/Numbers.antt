@@ -1,10 +1,11 @@
 -- Numbers that are refused, and names that stand again.
 use Rattle.std.proofs.Common.{◌≡◌, ℕ, ◌↔◌, IsTrue, Bool, true, List, Contains, ℤ, Result, Ok, Err, refl, sym, subst}
+use Rattle.bias_file.specs.Numbers.{IsBelowZero, ReadsAmperes, ReadsMicrometres, ReadsVolts}
 use Rattle.bias_file.specs.declared.error.BiasKind.{BiasKind}
 use Rattle.bias_file.specs.declared.error.BiasKind.TheVariants.{Syntax, Number, Twice, Want}
 use Rattle.bias_file.specs.declared.sort.Sort.{Sort}
 use Rattle.bias_file.specs.declared.sort.Sort.TheVariants.{Supply, DropLimit, Pad, Cell, Instance, Mark, Comment, Other, LineEnd, TextEnd}
-use Rattle.bias_file.specs.Faults.{ReadsVolts, ReadsAmperes, ReadsMicrometres, IsBelowZero, IsRefused, IsRefusedUnsigned, ValueFault, PlaceFault, gives_value, names_of, StandsAgain}
+use Rattle.bias_file.specs.Faults.{NumberFault, UnsignedFault, ValueFault, PlaceFault, gives_value, names_of, StandsAgain}
 use Rattle.bias_file.specs.Held.{Finds, kind_refused}
 use Rattle.fixed_decimal.specs.declared.error.DecimalError.{DecimalError}
 use Rattle.reading.specs.Words.{Token}
@@ -23,30 +24,30 @@ no_error e v h = cc
 one_error : (e f : DecimalError) → ◌≡◌ {A = Result ℤ DecimalError} (Err e) (Err f) → Number f ≡ Number e
 one_error e f h = cc
 
-nothing_refused : (reads : Result ℤ DecimalError → Type 0) (v : ℤ) → IsOnly reads (Ok v) → (kind : BiasKind) → IsRefused reads kind → ⊥
+nothing_refused : (reads : Result ℤ DecimalError → Type 0) (v : ℤ) → IsOnly reads (Ok v) → (kind : BiasKind) → NumberFault reads kind → ⊥
 nothing_refused reads v only Syntax h = h
 nothing_refused reads v only (Number e) h = no_error e v (only (Err e) h)
 nothing_refused reads v only Twice h = h
 nothing_refused reads v only Want h = h
 
-pub finds_refused : (reads : Result ℤ DecimalError → Type 0) (answer : Result ℤ DecimalError) → reads answer → IsOnly reads answer → Finds (IsRefused reads) (kind_refused answer)
+pub finds_refused : (reads : Result ℤ DecimalError → Type 0) (answer : Result ℤ DecimalError) → reads answer → IsOnly reads answer → Finds (NumberFault reads) (kind_refused answer)
 finds_refused reads (Ok v) is only = nothing_refused reads v only
 finds_refused reads (Err e) is only = is
 
-nothing_unsigned : (text : List ℕ) (reads : Result ℤ DecimalError → Type 0) (v : ℤ) → (IsBelowZero text → ⊥) → IsOnly reads (Ok v) → (kind : BiasKind) → IsRefusedUnsigned text reads kind → ⊥
+nothing_unsigned : (text : List ℕ) (reads : Result ℤ DecimalError → Type 0) (v : ℤ) → (IsBelowZero text → ⊥) → IsOnly reads (Ok v) → (kind : BiasKind) → UnsignedFault text reads kind → ⊥
 nothing_unsigned text reads v fine only Syntax h = fine h
 nothing_unsigned text reads v fine only (Number e) h = no_error e v (only (Err e) h.1)
 nothing_unsigned text reads v fine only Twice h = h
 nothing_unsigned text reads v fine only Want h = h
 
 pub finds_unsigned : (text : List ℕ) (reads : Result ℤ DecimalError → Type 0) (answer : Result ℤ DecimalError) → (IsBelowZero text → ⊥) → reads answer → IsOnly reads answer →
-    Finds (IsRefusedUnsigned text reads) (kind_refused answer)
+    Finds (UnsignedFault text reads) (kind_refused answer)
 finds_unsigned text reads (Ok v) fine is only = nothing_unsigned text reads v fine only
 finds_unsigned text reads (Err e) fine is only = (fine, is)
 
 -- ## one kind
 
-refused_one : (reads : Result ℤ DecimalError → Type 0) → HasOne reads → (k l : BiasKind) → IsRefused reads k → IsRefused reads l → l ≡ k
+refused_one : (reads : Result ℤ DecimalError → Type 0) → HasOne reads → (k l : BiasKind) → NumberFault reads k → NumberFault reads l → l ≡ k
 refused_one reads one (Number e) (Number f) h i = one_error e f (one (Err e) (Err f) h i)
 refused_one reads one Syntax l h i = absurd h
 refused_one reads one Twice l h i = absurd h
@@ -55,7 +56,7 @@ refused_one reads one (Number e) Syntax h i = absurd i
 refused_one reads one (Number e) Twice h i = absurd i
 refused_one reads one (Number e) Want h i = absurd i
 
-unsigned_one : (text : List ℕ) (reads : Result ℤ DecimalError → Type 0) → HasOne reads → (k l : BiasKind) → IsRefusedUnsigned text reads k → IsRefusedUnsigned text reads l → l ≡ k
+unsigned_one : (text : List ℕ) (reads : Result ℤ DecimalError → Type 0) → HasOne reads → (k l : BiasKind) → UnsignedFault text reads k → UnsignedFault text reads l → l ≡ k
 unsigned_one text reads one (Number e) (Number f) h i = one_error e f (one (Err e) (Err f) h.1 i.1)
 unsigned_one text reads one (Number e) Syntax h i = absurd (h.0 i)
 unsigned_one text reads one Syntax (Number f) h i = absurd (i.0 h)

@@ -7,6 +7,8 @@ use Rattle.std.proofs.lemmas.Int.{to_z-of_z, fits_signed_from_abs}
 use Rattle.std.specs.declared.alloc.AllocError.{AllocError}
 use Rattle.std.proofs.lemmas.List.{append-nil, map_push}
 use Rattle.std.proofs.lemmas.List.Elements.{filter-append}
+use Rattle.bias_file.specs.Lines.{is_pad_line, is_value_line, name_on, pad_lines, value_lines}
+use Rattle.bias_file.specs.Numbers.{IsBelowZero, ReadsMicrometres, ReadsVolts}
 use Rattle.bias_file.specs.declared.bias.Supply.{Supply}
 use Rattle.bias_file.specs.declared.bias.DropLimit.{DropLimit}
 use Rattle.bias_file.specs.declared.bias.Amps.{Amps}
@@ -18,10 +20,10 @@ use Rattle.bias_file.specs.declared.named.Named.{Named}
 use Rattle.bias_file.specs.declared.sort.Sort.{Sort}
 use Rattle.bias_file.specs.declared.sort.Sort.TheVariants as sorts
 use Rattle.bias_file.specs.Sorts.{the, sort_of}
-use Rattle.bias_file.specs.Faults.{ReadsVolts, ReadsMicrometres, IsBelowZero, IsRefusedUnsigned, ValueFault, PlaceFault, NameFault, gives_value, is_value_line, value_lines, name_on, names_of}
+use Rattle.bias_file.specs.Faults.{UnsignedFault, ValueFault, PlaceFault, NameFault, gives_value, names_of}
 use Rattle.bias_file.specs.Held.{HoldsNamed, HoldsLists, TakesValue, TakesPad, TakesLine}
 use Rattle.bias_file.specs.Reading.{format}
-use Rattle.bias_file.specs.Record.{InTurn, SaysSupply, SaysDropLimit, SaysAmps, SaysPad, is_pad_line, pad_lines}
+use Rattle.bias_file.specs.Record.{InTurn, SaysSupply, SaysDropLimit, SaysAmps, SaysPad}
 use Rattle.fixed_decimal.specs.declared.error.DecimalError.{DecimalError}
 use Rattle.fixed_decimal.specs.Value.{DecimalReads, SpiceReads}
 use Rattle.name_table.specs.Numbering.{TakesName}
@@ -111,7 +113,7 @@ supply_unread old first name value r is none = λ units stop which fine held.
 
 -- the line's number may not be below 0
 abbrev pub IsUnsigned : Sort → List ℕ → (Result ℤ DecimalError → Type 0) → Type 0
-IsUnsigned word text reads = (kind : BiasKind) → IsRefusedUnsigned text reads kind → ValueFault word text kind
+IsUnsigned word text reads = (kind : BiasKind) → UnsignedFault text reads kind → ValueFault word text kind
 
 pub unsigned_unread : {E : Type 0} (says : List Token → E → Type 0) (word : Sort) (old : Named E) (first name value : Token) (reads : Result ℤ DecimalError → Type 0) (r : Result ℤ DecimalError) →
     IsUnsigned word value.text reads → reads r → ((v : ℤ) → r ≡ Ok v → ⊥) → TakesValue says word old old first name value

@@ -1,5 +1,6 @@
 -- What the reader holds behind whole lines, for the contracts of its own functions.
 use Rattle.std.specs.Prelude.{◌≡◌, ℕ, List, [], ◌∷◌, ◌++◌, map, ℤ, Option, Some, None, Result, Ok, Err}
+use Rattle.bias_file.specs.Lines.{name_on, pad_lines, value_lines}
 use Rattle.bias_file.specs.declared.bias.PadAt.{PadAt}
 use Rattle.bias_file.specs.declared.error.BiasError.{BiasError}
 use Rattle.bias_file.specs.declared.error.BiasKind.{BiasKind}
@@ -12,8 +13,7 @@ use Rattle.bias_file.specs.declared.sort.Sort.TheVariants as sorts
 use Rattle.bias_file.specs.Sections.{section_of}
 use Rattle.bias_file.specs.Sorts.{sort_of}
 use Rattle.bias_file.specs.Reading.{format}
-use Rattle.bias_file.specs.Faults.{value_lines, name_on}
-use Rattle.bias_file.specs.Record.{InTurn, SaysSupply, SaysDropLimit, SaysAmps, SaysPad, pad_lines}
+use Rattle.bias_file.specs.Record.{InTurn, SaysSupply, SaysDropLimit, SaysAmps, SaysPad}
 use Rattle.fixed_decimal.specs.declared.error.DecimalError.{DecimalError}
 use Rattle.reading.specs.declared.refusal.Cause.TheVariants as causes
 use Rattle.reading.specs.declared.refusal.Found.{Found}

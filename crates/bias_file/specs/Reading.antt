@@ -36,7 +36,7 @@ abbrev pub Refuses : Text Token → BiasError → Type 0
 Refuses text error = (error.kind ≡ Want) ⊎
     ((n : ℕ) × (cause : Cause BiasKind) × IsRefused format text n cause × (place_in text.words text.refused n ≡ Some error.place) × (kind_of cause ≡ Some error.kind))
 
--- The record of the text's one list of lines, or its one refusal.
+-- The record of the text's one list of units, which are lines and the words of comments, or its one refusal.
 abbrev pub Gives : Text Token → Result Bias BiasError → Type 0
 Gives text (Ok bias) = (units : List (List Token)) × IsRead format text units × IsBias units bias
 Gives text (Err error) = Refuses text error

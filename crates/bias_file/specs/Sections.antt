@@ -2,38 +2,39 @@
 use Rattle.std.specs.Prelude.{◌≡◌, ℕ, ◌≤◌, List, [], ◌∷◌, length, slice_get, Some}
 use Rattle.std.proofs.Common.{refl, arith}
 use Rattle.bias_file.specs.declared.section.Section.{Section}
-use Rattle.bias_file.specs.declared.section.Section.TheVariants.{Lines, Remark, Nothing}
+use Rattle.bias_file.specs.declared.section.Section.TheVariants.{LineStart, Remark, Nothing}
 use Rattle.bias_file.specs.declared.sort.Sort.{Sort}
 use Rattle.bias_file.specs.declared.sort.Sort.TheVariants.{LineEnd, TextEnd}
 use Rattle.bias_file.specs.Sorts.{sort_of}
 use Rattle.reading.specs.Words.{Token}
 
 abbrev pub section_number : Section → ℕ
-section_number Lines = 0
+section_number LineStart = 0
 section_number Remark = 1
 section_number Nothing = 2
 
 abbrev pub all_sections : List Section
-all_sections = Lines ∷ Remark ∷ Nothing ∷ []
+all_sections = LineStart ∷ Remark ∷ Nothing ∷ []
 
--- behind the end of a line comes a line; a comment goes on to the end of the line
+-- Behind the end of a line comes a line. Else the word begins a comment or stands in one, and the comment goes on.
 abbrev pub section_behind_word : Sort → Section
-section_behind_word LineEnd = Lines
+section_behind_word LineEnd = LineStart
 section_behind_word TextEnd = Nothing
 section_behind_word _ = Remark
 
 abbrev pub section_behind : List Token → Section
-section_behind [] = Lines
+section_behind [] = LineStart
 section_behind (word ∷ []) = section_behind_word (sort_of word)
 section_behind (word ∷ next ∷ words) = section_behind (next ∷ words)
 
 abbrev pub section_of : List (List Token) → Section
-section_of [] = Lines
+section_of [] = LineStart
 section_of (unit ∷ []) = section_behind unit
 section_of (unit ∷ next ∷ units) = section_of (next ∷ units)
 
+-- each section stands in the list at its number, and there are few
 pub listed : (section : Section) → slice_get all_sections (section_number section) ≡ Some section
-listed Lines = refl
+listed LineStart = refl
 listed Remark = refl
 listed Nothing = refl
 

@@ -27,6 +27,7 @@ all_sorts = Supply ∷ DropLimit ∷ Pad ∷ Cell ∷ Instance ∷ Mark ∷ Comm
 abbrev pub the : Sort → Sort → Bool
 the this sort = number_of sort == number_of this
 
+-- a word that begins with `#` (byte 35) makes a comment
 abbrev pub begins_comment : List ℕ → Bool
 begins_comment [] = false
 begins_comment (c ∷ cs) = c == 35
@@ -44,6 +45,7 @@ sort_of_text text =
     if bytes_eq text (codes ")") then Mark else
     if begins_comment text then Comment else Other
 
+-- the sort of a word of this form. In lines each word is bare or an end; the other forms never come.
 abbrev pub sort_with : Form → List ℕ → Sort
 sort_with Break text = LineEnd
 sort_with End text = TextEnd
@@ -55,6 +57,7 @@ sort_with Semicolon text = sort_of_text text
 abbrev pub sort_of : Token → Sort
 sort_of word = sort_with word.form word.text
 
+-- each sort stands in the list at its number, and there are few
 pub listed : (sort : Sort) → slice_get all_sorts (number_of sort) ≡ Some sort
 listed Supply = refl
 listed DropLimit = refl

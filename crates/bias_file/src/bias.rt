@@ -6,11 +6,11 @@ use outside::Name;
 pub struct Bias {
     /// The potentials of the nets, each net at most once.
     pub supplies: Entries<Supply>,
-    /// How far the nodes of a net may drop, each net at most once.
+    /// How far the nodes of a net may be from its supply, each net at most once.
     pub drops: Entries<DropLimit>,
     /// The pads.
     pub pads: Entries<PadAt>,
-    /// What the components of a macro draw, each macro at most once.
+    /// What each component of a macro draws that has no line of its own, each macro at most once.
     pub cells: Entries<Amps>,
     /// What a component draws, each component at most once.
     pub instances: Entries<Amps>,
@@ -49,7 +49,7 @@ pub struct PadAt {
     pub y: i64,
 }
 
-/// The line `cell MACRO I`, for each component of a macro, or `instance NAME I`, for one component.
+/// The line `cell MACRO I`, for each component of a macro that has no line of its own, or `instance NAME I`, for one component.
 #[derive(Debug, Drop)]
 pub struct Amps {
     /// The number of the line, from 1.

@@ -14,7 +14,7 @@ pub struct BiasError {
 pub enum BiasKind {
     /// With this word the words so far begin no bias file, or it is a number below 0 where none may be.
     Syntax,
-    /// The word is no number, or a number out of range.
+    /// The word is no number, a number other than 0 that rounds to 0, or one beyond the limit.
     Number(DecimalError),
     /// A line before has this name behind the same first word. Pads may repeat.
     Twice,

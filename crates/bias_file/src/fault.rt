@@ -1,6 +1,6 @@
 //! The faults that the words of a line show.
 ghost use Rattle.std.specs.Prelude.{◌≡◌, ◌↔◌, ℕ, ℤ, List, IsTrue, Result};
-ghost use Rattle.bias_file.specs.Faults.{IsRefusedUnsigned, ValueFault, PlaceFault, StandsAgain, NameFault};
+ghost use Rattle.bias_file.specs.Faults.{UnsignedFault, ValueFault, PlaceFault, StandsAgain, NameFault};
 ghost use Rattle.bias_file.specs.Held.{HoldsLists, Finds, kind_refused, found_at};
 ghost use Rattle.fixed_decimal.specs.declared.error.DecimalError.{DecimalError as Error};
 ghost use Rattle.fixed_decimal.specs.Spice.{IsSpice};
@@ -28,7 +28,7 @@ fn kind_refused(answer: Result<i128, DecimalError>) -> Option<BiasKind>
 fn kind_refused_unsigned(text: &[u8], answer: Result<i128, DecimalError>) -> Option<BiasKind>
     ensures { (places limit : ℕ) → IsAnswer IsSpice places limit text.now answer →
         ((other : Result ℤ Error) → IsAnswer IsSpice places limit text.now other → other ≡ answer) →
-        Finds (IsRefusedUnsigned text.now (IsAnswer IsSpice places limit text.now)) result }
+        Finds (UnsignedFault text.now (IsAnswer IsSpice places limit text.now)) result }
 {
     if is_negative(text, answer) {
         return Some(BiasKind::Syntax);

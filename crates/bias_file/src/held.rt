@@ -45,7 +45,7 @@ impl<'a> Held<'a> {
     {
         Ok(Held {
             lists: Lists::new(alloc)?,
-            section: Section::Lines,
+            section: Section::LineStart,
             alloc,
         })
     }

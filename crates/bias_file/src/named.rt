@@ -1,5 +1,6 @@
 //! Lines of one first word, each with a name of its own.
 ghost use Rattle.std.specs.Prelude.{◌≡◌, [], ◌∷◌, ◌++◌, IfOk, OnOk};
+ghost use Rattle.bias_file.specs.Limits.{AreDistinct};
 ghost use Rattle.name_table.specs.Numbering.{TakesName};
 
 use name_table::NameTable;
@@ -36,10 +37,12 @@ impl<'a, T: Drop> Named<'a, T> {
         Ok(())
     }
 
-    /// What the lines say.
+    /// What the lines say. The names of a table differ, as its length tells.
     pub(crate) fn into_entries(self) -> Vec<T>
-        ensures { result ≡ self.entry.entries }
+        ensures entries { result ≡ self.entry.entries }
+        ensures distinct { AreDistinct self.entry.names }
     {
+        let _count = self.names.len();
         self.entries
     }
 }

@@ -1,5 +1,6 @@
-ghost use Rattle.std.specs.Prelude.{◌≡◌, List};
+ghost use Rattle.std.specs.Prelude.{◌≡◌, List, IfOk};
 ghost use Rattle.bias_file.specs.Held.{HoldsLists, want_error, error_of};
+ghost use Rattle.bias_file.specs.Limits.{KeepsLimits};
 ghost use Rattle.bias_file.specs.Reading.{ReadsBias};
 ghost use Rattle.bias_file.specs.Record.{IsBias};
 ghost use Rattle.reading.specs.Words.{Token};
@@ -17,11 +18,13 @@ use text_lex::{Mode, one_split};
 /// Reads a bias file.
 ///
 /// The numbers of volts and amperes may have a scale, those of places may not: `supply` and `droplimit` have 24 places and the
-/// limit 10^25 yV, `cell` and `instance` 15 and 10^18 fA, `pad` 6 and 10^11 pm. Those of `droplimit`, `cell` and `instance` are not below 0.
+/// limit 10^25 yV (10 V), `cell` and `instance` 15 and 10^18 fA (1000 A), `pad` 6 and 10^11 pm (100 mm). Those of `droplimit`,
+/// `cell` and `instance` are not below 0.
 ///
 /// Errors: the refusal at the earliest word, and there of the first kind, as `BiasKind` lists them; `Want` for want of memory.
 pub fn read_bias(alloc: Global, text: &[u8]) -> Result<Bias, BiasError>
-    ensures { ReadsBias text.now result }
+    ensures reads { ReadsBias text.now result }
+    ensures keeps { IfOk result KeepsLimits }
 {
     one_split();
     let Ok(mut held) = Held::new(alloc) else {
@@ -35,7 +38,8 @@ pub fn read_bias(alloc: Global, text: &[u8]) -> Result<Bias, BiasError>
 
 /// The record of what the lines say.
 fn bias_of(lists: Lists<'_>) -> Bias
-    ensures { (units : List (List Token)) → HoldsLists units lists.entry → IsBias units result }
+    ensures is { (units : List (List Token)) → HoldsLists units lists.entry → IsBias units result }
+    ensures keeps { (units : List (List Token)) → HoldsLists units lists.entry → KeepsLimits result }
 {
     Bias {
         supplies: Entries::new(lists.supplies.into_entries()),

@@ -7,10 +7,10 @@ use crate::section::Section;
 use crate::sort::Sort;
 use reading::Rule;
 
-/// A name is any word.
+/// A name is any word, also a first word or `;`, but not the word that begins a comment.
 const NAME: Rule<'static, Sort> = Rule::Other(&[Sort::Comment, Sort::LineEnd, Sort::TextEnd]);
 
-/// A number stands in the place of any word but `;`, `(` and `)`.
+/// In the place of a number stands any word but `;`, `(`, `)` and the word that begins a comment.
 const NUMBER: Rule<'static, Sort> = Rule::Other(&[
     Sort::Mark,
     Sort::Comment,
@@ -66,7 +66,7 @@ pub(crate) fn rule(section: Section) -> Rule<'static, Sort>
     ensures { IsRule number_of result (pattern section) }
 {
     match section {
-        Section::Lines => LINE,
+        Section::LineStart => LINE,
         Section::Remark => REMARK,
         Section::Nothing => Rule::Nothing,
     }

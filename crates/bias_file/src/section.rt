@@ -9,7 +9,7 @@ use reading::{Numbered, Word};
 #[derive(Clone, Copy, Debug)]
 pub(crate) enum Section {
     /// At the start of a line.
-    Lines,
+    LineStart,
     /// In a comment, of which each word is a unit.
     Remark,
     /// Behind the end of the text.
@@ -35,7 +35,7 @@ fn section_behind_word(sort: Sort) -> Section
     ensures { result ≡ section_behind_word sort }
 {
     match sort {
-        Sort::LineEnd => Section::Lines,
+        Sort::LineEnd => Section::LineStart,
         Sort::TextEnd => Section::Nothing,
         Sort::Supply => Section::Remark,
         Sort::DropLimit => Section::Remark,
@@ -54,6 +54,6 @@ pub(crate) fn section_behind(unit: &[Word<'_>]) -> Section
 {
     match unit.last() {
         Some(word) => section_behind_word(sort_of(word)),
-        None => Section::Lines,
+        None => Section::LineStart,
     }
 }

@@ -1,4 +1,4 @@
-//! Texts whose records and refusals were worked out by hand: 1 V is 10^24 yV, 1 A is 10^15 fA, 1 µm is 10^6 pm.
+//! Texts whose records and refusals were worked out from the rule of the format: 1 V is 10^24 yV, 1 A is 10^15 fA, 1 µm is 10^6 pm.
 use super::*;
 use BiasKind::{Number, Syntax, Twice};
 use DecimalError::{NotNumber, Range, Vanishes};

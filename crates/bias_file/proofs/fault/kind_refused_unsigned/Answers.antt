@@ -1,5 +1,5 @@
 use Rattle.std.proofs.Common.{◌≡◌, ◌∙◌, true, false, sym, subst}
-use Rattle.bias_file.specs.Faults.{IsRefusedUnsigned}
+use Rattle.bias_file.specs.Faults.{UnsignedFault}
 use Rattle.bias_file.specs.Held.{Finds}
 use Rattle.bias_file.proofs.Numbers.{finds_unsigned}
 use Rattle.fixed_decimal.specs.Spice.{IsSpice}
@@ -14,6 +14,6 @@ returns-then-is_negative c = λ places limit is only. (c.is_negative.ensures.spi
 
 pub returns : goal.returns
 returns c = λ places limit is only.
-    subst (λ z. Finds (IsRefusedUnsigned c.args.text.now (IsAnswer IsSpice places limit c.args.text.now)) z) (sym c.kind_refused.ensures)
+    subst (λ z. Finds (UnsignedFault c.args.text.now (IsAnswer IsSpice places limit c.args.text.now)) z) (sym c.kind_refused.ensures)
     (finds_unsigned c.args.text.now (IsAnswer IsSpice places limit c.args.text.now) c.args.answer
     (λ below. no (sym ((c.is_negative.ensures.spice places limit is).1 below) ∙ c.if-is_negative.false)) is only)

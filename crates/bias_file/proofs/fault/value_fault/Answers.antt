@@ -1,5 +1,6 @@
 use Rattle.std.proofs.Common.{◌^◌, sym, subst}
-use Rattle.bias_file.specs.Faults.{ValueFault, IsRefused, ReadsVolts}
+use Rattle.bias_file.specs.Numbers.{ReadsVolts}
+use Rattle.bias_file.specs.Faults.{ValueFault, NumberFault}
 use Rattle.bias_file.specs.Held.{Finds}
 use Rattle.bias_file.proofs.Numbers.{finds_refused}
 use Rattle.bias_file.proofs.fault.value_fault.Goals as goal
@@ -7,7 +8,7 @@ use Rattle.bias_file.proofs.fault.value_fault.Goals as goal
 pub returns-in-Supply : goal.returns-in-Supply
 returns-in-Supply c =
     subst (λ z. Finds (ValueFault z c.args.text.now) c.kind_refused.result) (sym c.in-Supply.is)
-    (subst (λ z. Finds (IsRefused (ReadsVolts c.args.text.now)) z) (sym c.kind_refused.ensures)
+    (subst (λ z. Finds (NumberFault (ReadsVolts c.args.text.now)) z) (sym c.kind_refused.ensures)
     (finds_refused (ReadsVolts c.args.text.now) c.volts.result c.volts.ensures.is c.volts.ensures.only))
 
 pub returns-in-DropLimit : goal.returns-in-DropLimit

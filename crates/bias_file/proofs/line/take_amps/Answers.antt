@@ -1,6 +1,6 @@
 use Rattle.std.proofs.Common.{◌^◌, ◌∙◌, refl, sym, subst}
+use Rattle.bias_file.specs.Numbers.{ReadsAmperes}
 use Rattle.bias_file.specs.declared.sort.Sort.TheVariants.{Cell, Instance}
-use Rattle.bias_file.specs.Faults.{ReadsAmperes}
 use Rattle.bias_file.specs.Record.{SaysAmps}
 use Rattle.bias_file.proofs.Taking.{unsigned_unread, cell_taken, instance_taken, narrow_amperes}
 use Rattle.reading.specs.Words.{token}

@@ -1,6 +1,6 @@
 use Rattle.std.proofs.Common.{◌^◌, refl, subst}
+use Rattle.bias_file.specs.Numbers.{ReadsVolts}
 use Rattle.bias_file.specs.declared.sort.Sort.TheVariants.{DropLimit}
-use Rattle.bias_file.specs.Faults.{ReadsVolts}
 use Rattle.bias_file.specs.Record.{SaysDropLimit}
 use Rattle.bias_file.proofs.Taking.{unsigned_unread, limit_taken, kept_volts}
 use Rattle.reading.specs.Words.{token}

@@ -1,6 +1,6 @@
 use Rattle.std.proofs.Common.{◌≡◌, ◌∙◌, true, refl, sym, ap, subst}
+use Rattle.bias_file.specs.Numbers.{ReadsMicrometres}
 use Rattle.bias_file.specs.declared.sort.Sort.TheVariants.{Pad}
-use Rattle.bias_file.specs.Faults.{ReadsMicrometres}
 use Rattle.bias_file.specs.Sorts.{the, sort_of}
 use Rattle.bias_file.proofs.Taking.{pad_unread_x, pad_unread_y, pad_taken, narrow_place}
 use Rattle.reading.specs.Words.{token}

@@ -1,5 +1,5 @@
+use Rattle.bias_file.specs.Numbers.{ReadsVolts}
 use Rattle.std.proofs.Common.{refl, subst}
-use Rattle.bias_file.specs.Faults.{ReadsVolts}
 use Rattle.bias_file.proofs.Taking.{supply_unread, supply_taken, kept_volts}
 use Rattle.reading.specs.Words.{token}
 use Rattle.bias_file.proofs.line.take_supply.Goals as goal

@@ -1,6 +1,7 @@
 //! `statements FILE`: counts the statements of a text, or says at which word it is refused.
 #![tactic(auto)]
 
+mod by_hand;
 mod count;
 mod grammar;
 mod rule;

@@ -1,7 +1,6 @@
 //! The same count by a reader that is written by hand.
 ghost use Rattle.std.specs.Prelude.{◌≡◌, Ok};
 ghost use Rattle.text_lex.specs.declared.word.Mode.TheVariants.{LefDef};
-ghost use Rattle.reading.specs.Reading.{IsOrderly};
 ghost use Rattle.reading.specs.Taking.{Reads};
 ghost use Rattle.statements.specs.Statements.{statements_format, count_of};
 ghost use Rattle.statements.specs.ByHand.{Stands};
@@ -69,9 +68,7 @@ impl<'a> Reader<'a> for Counter {
         }
     }
 
-    fn orderly(&self)
-        ensures { IsOrderly statements_format }
-    {}
+    fn orderly(&self) {}
 }
 
 /// How many statements a text has, or the one word at which it is refused, and why.

@@ -58,6 +58,8 @@ fn end_at(place: Place) -> Word<'static>
 impl<'a> Source<'a> for Items<'a> {
     ghost left = { λ i. left_of i.ended i.words };
 
+    // Into each reader of a program, whose mode it then knows.
+    #[inline(always)]
     fn next(&mut self) -> Result<Option<Word<'a>>, LexError> {
         if self.ended {
             return Ok(None);

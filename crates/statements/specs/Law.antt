@@ -30,7 +30,7 @@ samples c Bracket usable = (word_of Bare (codes "("), refl)
 samples c Other usable = (word_of Bare [], refl)
 samples c TextEnd usable = (word_of End [], refl)
 
-ends : (w : Token) → w.form ≡ End → sort_of w ≡ TextEnd
+pub ends : (w : Token) → w.form ≡ End → sort_of w ≡ TextEnd
 ends w h = ap (λ form. sort_of_word form w.text) h
 
 last : (part : List Token) (a : Found Kind) → fault_of part a → a.at + 1 ≡ length part

@@ -3,3 +3,4 @@ pub mod Numbers
 pub mod Rules
 pub mod Statements
 pub mod Law
+pub mod ByHand

@@ -37,6 +37,17 @@ fn sort_of_text(text: &[u8]) -> Sort
     }
 }
 
+/// The sort of a word, wherever it stands.
+pub(crate) fn sort_of(word: &Word<'_>) -> Sort
+    ensures { result ≡ sort_of (token word.now) }
+{
+    match word.form {
+        Form::Bare => sort_of_text(word.text),
+        Form::End => Sort::TextEnd,
+        _ => Sort::Other,
+    }
+}
+
 /// Whether each byte is a digit.
 fn has_only_digits(text: &[u8]) -> bool
     ensures { result ≡ list_all is_ascii_digit text.now }
@@ -45,7 +56,7 @@ fn has_only_digits(text: &[u8]) -> bool
 }
 
 /// Whether the word is one digit or more, and nothing else.
-fn is_whole(text: &[u8]) -> bool
+pub(crate) fn is_whole(text: &[u8]) -> bool
     ensures { result ≡ whole text.now }
 {
     !text.is_empty() && has_only_digits(text)
@@ -91,11 +102,7 @@ impl<'a> Grammar<'a> for Statements {
     ghost holds = { λ _ said units. said ≡ count_of units };
 
     fn sort(&self, _: &u64, word: &Word<'a>) -> Sort {
-        match word.form {
-            Form::Bare => sort_of_text(word.text),
-            Form::End => Sort::TextEnd,
-            _ => Sort::Other,
-        }
+        sort_of(word)
     }
 
     fn section(&self, _: &u64) -> Section {

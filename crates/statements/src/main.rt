@@ -1,11 +1,15 @@
-//! `statements FILE`: counts the statements of a text, or says at which word it is refused.
+//! `statements [by-hand] FILE`: counts the statements of a text, or says at which word it is refused.
 #![tactic(auto)]
 
+mod by_hand;
 mod count;
 mod grammar;
 mod rule;
 mod sort;
 
+use by_hand::count_by_hand;
+use count::count_statements;
+use grammar::Kind;
 use outside::{StdFiles, read_whole};
 use reading::Refusal;
 use std::alloc::{AllocError, Global};
@@ -19,17 +23,17 @@ mod tests;
 /// A text has at most so many bytes.
 const LIMIT: u64 = 1 << 28;
 
-/// The first word behind the program's name, or an empty one.
-fn file_name(alloc: Global, rt: &(impl Env + AllocGlobal)) -> io::Result<String> {
-    for word in env::args(rt)?.skip(1) {
+/// The word of the command line with this number, or an empty one.
+fn word_at(alloc: Global, rt: &(impl Env + AllocGlobal), number: usize) -> io::Result<String> {
+    for word in env::args(rt)?.skip(number) {
         return Ok(String::from_str(alloc, word.as_str())?);
     }
     Ok(String::new(alloc))
 }
 
 /// The line that tells what a text is.
-fn line(alloc: Global, text: &[u8]) -> Result<String, AllocError> {
-    match count::count_statements(alloc, text) {
+fn line(alloc: Global, counted: Result<u64, Refusal<Kind>>) -> Result<String, AllocError> {
+    match counted {
         Ok(count) => format!(in alloc; "{count}"),
         Err(Refusal::At(place, _)) => format!(in alloc; "refused {}:{}", place.line, place.word),
         Err(Refusal::Want) => Err(AllocError),
@@ -38,13 +42,24 @@ fn line(alloc: Global, text: &[u8]) -> Result<String, AllocError> {
 
 fn main(rt: HostRuntime) -> io::Result<ExitCode> {
     let alloc = rt.alloc();
-    let name = file_name(alloc, &rt)?;
+    let first = word_at(alloc, &rt, 1)?;
+    let by_hand = first.as_str() == "by-hand";
+    let name = if by_hand {
+        word_at(alloc, &rt, 2)?
+    } else {
+        first
+    };
     let mut files = StdFiles::new(alloc, &rt);
     let Ok(text) = read_whole(alloc, &mut files, name.as_str(), LIMIT) else {
         println!(rt; "not read")?;
         return Ok(ExitCode::from(3));
     };
-    let told = line(alloc, &text)?;
+    let counted = if by_hand {
+        count_by_hand(&text)
+    } else {
+        count_statements(alloc, &text)
+    };
+    let told = line(alloc, counted)?;
     println!(rt; "{told}")?;
     Ok(ExitCode::SUCCESS)
 }

@@ -1,4 +1,5 @@
 //! Texts whose statements were counted by hand.
+use crate::by_hand::count_by_hand;
 use crate::count::count_statements;
 use crate::grammar::Kind;
 use outside::Place;
@@ -11,8 +12,8 @@ use text_lex::LexKind;
 /// The count, or where the text is refused, and why.
 type Found = Result<u64, (u64, u64, Cause<Kind>)>;
 
-fn found(alloc: Global, text: &[u8]) -> Result<Found, AllocError> {
-    match count_statements(alloc, text) {
+fn found(read: Result<u64, Refusal<Kind>>) -> Result<Found, AllocError> {
+    match read {
         Ok(count) => Ok(Ok(count)),
         Err(Refusal::At(Place { line, word }, cause)) => Ok(Err((line, word, cause))),
         Err(Refusal::Want) => Err(AllocError),
@@ -42,7 +43,13 @@ const TEXTS: &[(&str, Found)] = &[
 
 fn try_all(rt: &impl Abort, alloc: Global, table: &[(&str, Found)]) -> Result<(), Fail> {
     for (text, want) in table {
-        assert_eq!(rt; found(alloc, text.as_bytes())?, *want, "at {text:?}");
+        let bytes = text.as_bytes();
+        assert_eq!(rt;
+            found(count_statements(alloc, bytes))?,
+            *want,
+            "at {text:?}"
+        );
+        assert_eq!(rt; found(count_by_hand(bytes))?, *want, "by hand at {text:?}");
     }
     Ok(())
 }

@@ -146,6 +146,8 @@ impl<'a> Words<'a> {
     }
 
     /// The next word, or None at the end of the text. A refused word is refused again at each later call.
+    // Into each caller, whose mode is mostly a constant.
+    #[inline(always)]
     pub fn next(&mut self) -> Result<Option<Word<'a>>, LexError>
         ensures { Answers self.old result self.new }
     {

@@ -47,26 +47,22 @@ units_end Remark = record { solid = inr refl; closes = refl; comes_last = refl }
 units_end Nothing = record { solid = inl refl; closes = refl; comes_last = refl }
 
 last : (units : List (List Token)) (part : List Token) (a : Found BiasKind) → fault units part a → a.at + 1 ≡ length part
-last units [] a h = absurd h
-last units (first ∷ []) a h = absurd h
 last units (first ∷ name ∷ []) a h = ap (λ z. z + 1) h.0
 last units (first ∷ name ∷ value ∷ []) a h = ap (λ z. z + 1) h.0
 last units (first ∷ net ∷ layer ∷ x ∷ []) a h = ap (λ z. z + 1) h.0
 last units (first ∷ net ∷ layer ∷ x ∷ y ∷ []) a h = ap (λ z. z + 1) h.0
-last units (first ∷ net ∷ layer ∷ x ∷ y ∷ stop ∷ more) a h = absurd h
+last units part a h = absurd h
 
 -- a text has at most one answer
 abbrev pub HasOneAnswer : (List ℕ → Rattle.fixed_decimal.specs.Number.Number → Type 0) → Type 0
 HasOneAnswer form = (places limit : ℕ) (text : List ℕ) (r s : Result ℤ DecimalError) → IsAnswer form places limit text r → IsAnswer form places limit text s → r ≡ s
 
 one : HasOneAnswer IsDecimal → HasOneAnswer IsSpice → (units : List (List Token)) (part : List Token) (a b : Found BiasKind) → fault units part a → fault units part b → b.kind ≡ a.kind
-one d s units [] a b h i = absurd h
-one d s units (first ∷ []) a b h i = absurd h
 one d s units (first ∷ name ∷ []) a b h i = i.1.0 ∙ sym h.1.0
 one d s units (first ∷ name ∷ value ∷ []) a b h i = value_one (sort_of first) value.text (s 24 (10 ^ 25) value.text) (s 15 (10 ^ 18) value.text) a.kind b.kind h.1 i.1
 one d s units (first ∷ net ∷ layer ∷ x ∷ []) a b h i = place_one (sort_of first) x.text (d 6 (10 ^ 11) x.text) a.kind b.kind h.1 i.1
 one d s units (first ∷ net ∷ layer ∷ x ∷ y ∷ []) a b h i = place_one (sort_of first) y.text (d 6 (10 ^ 11) y.text) a.kind b.kind h.1 i.1
-one d s units (first ∷ net ∷ layer ∷ x ∷ y ∷ stop ∷ more) a b h i = absurd h
+one d s units part a b h i = absurd h
 
 pub regular : HasOneAnswer IsDecimal → HasOneAnswer IsSpice → IsRegular all_sorts pattern format
 regular d s = record {

@@ -48,62 +48,32 @@ same_least low high e = omega (arith, ints)
 
 supply_kept : SaysKept SaysSupply SupplyKeeps
 supply_kept (first ∷ net ∷ volts ∷ stop ∷ []) supply h = h.2.2.within
-supply_kept [] supply h = absurd h
-supply_kept (x ∷ []) supply h = absurd h
-supply_kept (x ∷ y ∷ []) supply h = absurd h
-supply_kept (x ∷ y ∷ z ∷ []) supply h = absurd h
-supply_kept (x ∷ y ∷ z ∷ w ∷ v ∷ words) supply h = absurd h
+supply_kept line supply h = absurd h
 
 limit_kept : SaysKept SaysDropLimit DropLimitKeeps
 limit_kept (first ∷ net ∷ volts ∷ stop ∷ []) limit h = (h.3, at_most limit.volts (10 ^ 25) h.2.2.within)
-limit_kept [] limit h = absurd h
-limit_kept (x ∷ []) limit h = absurd h
-limit_kept (x ∷ y ∷ []) limit h = absurd h
-limit_kept (x ∷ y ∷ z ∷ []) limit h = absurd h
-limit_kept (x ∷ y ∷ z ∷ w ∷ v ∷ words) limit h = absurd h
+limit_kept line limit h = absurd h
 
 amps_kept : SaysKept SaysAmps AmpsKeep
 amps_kept (first ∷ name ∷ amperes ∷ stop ∷ []) amps h =
     (h.3, same_least amps.low amps.high h.4, subst (λ z. z ≤ℤ pos (10 ^ 18)) (sym h.4) (at_most amps.low (10 ^ 18) h.2.2.within))
-amps_kept [] amps h = absurd h
-amps_kept (x ∷ []) amps h = absurd h
-amps_kept (x ∷ y ∷ []) amps h = absurd h
-amps_kept (x ∷ y ∷ z ∷ []) amps h = absurd h
-amps_kept (x ∷ y ∷ z ∷ w ∷ v ∷ words) amps h = absurd h
+amps_kept line amps h = absurd h
 
 pad_kept : SaysKept SaysPad PadKeeps
 pad_kept (first ∷ net ∷ layer ∷ x ∷ y ∷ stop ∷ []) pad h = (h.3.2.within, h.4.2.within)
-pad_kept [] pad h = absurd h
-pad_kept (x ∷ []) pad h = absurd h
-pad_kept (x ∷ y ∷ []) pad h = absurd h
-pad_kept (x ∷ y ∷ z ∷ []) pad h = absurd h
-pad_kept (x ∷ y ∷ z ∷ w ∷ []) pad h = absurd h
-pad_kept (x ∷ y ∷ z ∷ w ∷ v ∷ []) pad h = absurd h
-pad_kept (x ∷ y ∷ z ∷ w ∷ v ∷ u ∷ t ∷ words) pad h = absurd h
+pad_kept line pad h = absurd h
 
 supply_name : SaysName SaysSupply (λ supply. supply.net)
 supply_name (first ∷ net ∷ volts ∷ stop ∷ []) supply h = h.1
-supply_name [] supply h = absurd h
-supply_name (x ∷ []) supply h = absurd h
-supply_name (x ∷ y ∷ []) supply h = absurd h
-supply_name (x ∷ y ∷ z ∷ []) supply h = absurd h
-supply_name (x ∷ y ∷ z ∷ w ∷ v ∷ words) supply h = absurd h
+supply_name line supply h = absurd h
 
 limit_name : SaysName SaysDropLimit (λ limit. limit.net)
 limit_name (first ∷ net ∷ volts ∷ stop ∷ []) limit h = h.1
-limit_name [] limit h = absurd h
-limit_name (x ∷ []) limit h = absurd h
-limit_name (x ∷ y ∷ []) limit h = absurd h
-limit_name (x ∷ y ∷ z ∷ []) limit h = absurd h
-limit_name (x ∷ y ∷ z ∷ w ∷ v ∷ words) limit h = absurd h
+limit_name line limit h = absurd h
 
 amps_name : SaysName SaysAmps (λ amps. amps.name)
 amps_name (first ∷ name ∷ amperes ∷ stop ∷ []) amps h = h.1
-amps_name [] amps h = absurd h
-amps_name (x ∷ []) amps h = absurd h
-amps_name (x ∷ y ∷ []) amps h = absurd h
-amps_name (x ∷ y ∷ z ∷ []) amps h = absurd h
-amps_name (x ∷ y ∷ z ∷ w ∷ v ∷ words) amps h = absurd h
+amps_name line amps h = absurd h
 
 pub supplies_kept : (lines : List (List Token)) (entries : List Supply) → InTurn SaysSupply lines entries → All SupplyKeeps entries
 supplies_kept = all_kept SaysSupply SupplyKeeps supply_kept

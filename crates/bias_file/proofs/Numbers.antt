@@ -2,9 +2,9 @@
 use Rattle.std.proofs.Common.{◌≡◌, ℕ, ◌↔◌, IsTrue, Bool, true, List, Contains, ℤ, Result, Ok, Err, refl, sym, subst}
 use Rattle.bias_file.specs.Numbers.{IsBelowZero, ReadsAmperes, ReadsMicrometres, ReadsVolts}
 use Rattle.bias_file.specs.declared.error.BiasKind.{BiasKind}
-use Rattle.bias_file.specs.declared.error.BiasKind.TheVariants.{Syntax, Number, Twice, Want}
+use Rattle.bias_file.specs.declared.error.BiasKind.TheVariants.{Syntax, Number}
 use Rattle.bias_file.specs.declared.sort.Sort.{Sort}
-use Rattle.bias_file.specs.declared.sort.Sort.TheVariants.{Supply, DropLimit, Pad, Cell, Instance, Mark, Comment, Other, LineEnd, TextEnd}
+use Rattle.bias_file.specs.declared.sort.Sort.TheVariants.{Supply, DropLimit, Pad, Cell, Instance}
 use Rattle.bias_file.specs.Faults.{NumberFault, UnsignedFault, ValueFault, PlaceFault, gives_value, names_of, StandsAgain}
 use Rattle.bias_file.specs.Held.{Finds, kind_refused}
 use Rattle.fixed_decimal.specs.declared.error.DecimalError.{DecimalError}
@@ -25,10 +25,8 @@ one_error : (e f : DecimalError) → ◌≡◌ {A = Result ℤ DecimalError} (Er
 one_error e f h = cc
 
 nothing_refused : (reads : Result ℤ DecimalError → Type 0) (v : ℤ) → IsOnly reads (Ok v) → (kind : BiasKind) → NumberFault reads kind → ⊥
-nothing_refused reads v only Syntax h = h
 nothing_refused reads v only (Number e) h = no_error e v (only (Err e) h)
-nothing_refused reads v only Twice h = h
-nothing_refused reads v only Want h = h
+nothing_refused reads v only kind h = h
 
 pub finds_refused : (reads : Result ℤ DecimalError → Type 0) (answer : Result ℤ DecimalError) → reads answer → IsOnly reads answer → Finds (NumberFault reads) (kind_refused answer)
 finds_refused reads (Ok v) is only = nothing_refused reads v only
@@ -37,8 +35,7 @@ finds_refused reads (Err e) is only = is
 nothing_unsigned : (text : List ℕ) (reads : Result ℤ DecimalError → Type 0) (v : ℤ) → (IsBelowZero text → ⊥) → IsOnly reads (Ok v) → (kind : BiasKind) → UnsignedFault text reads kind → ⊥
 nothing_unsigned text reads v fine only Syntax h = fine h
 nothing_unsigned text reads v fine only (Number e) h = no_error e v (only (Err e) h.1)
-nothing_unsigned text reads v fine only Twice h = h
-nothing_unsigned text reads v fine only Want h = h
+nothing_unsigned text reads v fine only kind h = h
 
 pub finds_unsigned : (text : List ℕ) (reads : Result ℤ DecimalError → Type 0) (answer : Result ℤ DecimalError) → (IsBelowZero text → ⊥) → reads answer → IsOnly reads answer →
     Finds (UnsignedFault text reads) (kind_refused answer)
@@ -49,48 +46,28 @@ finds_unsigned text reads (Err e) fine is only = (fine, is)
 
 refused_one : (reads : Result ℤ DecimalError → Type 0) → HasOne reads → (k l : BiasKind) → NumberFault reads k → NumberFault reads l → l ≡ k
 refused_one reads one (Number e) (Number f) h i = one_error e f (one (Err e) (Err f) h i)
-refused_one reads one Syntax l h i = absurd h
-refused_one reads one Twice l h i = absurd h
-refused_one reads one Want l h i = absurd h
-refused_one reads one (Number e) Syntax h i = absurd i
-refused_one reads one (Number e) Twice h i = absurd i
-refused_one reads one (Number e) Want h i = absurd i
+refused_one reads one (Number e) l h i = absurd i
+refused_one reads one k l h i = absurd h
 
 unsigned_one : (text : List ℕ) (reads : Result ℤ DecimalError → Type 0) → HasOne reads → (k l : BiasKind) → UnsignedFault text reads k → UnsignedFault text reads l → l ≡ k
 unsigned_one text reads one (Number e) (Number f) h i = one_error e f (one (Err e) (Err f) h.1 i.1)
 unsigned_one text reads one (Number e) Syntax h i = absurd (h.0 i)
 unsigned_one text reads one Syntax (Number f) h i = absurd (i.0 h)
 unsigned_one text reads one Syntax Syntax h i = refl
-unsigned_one text reads one Syntax Twice h i = absurd i
-unsigned_one text reads one Syntax Want h i = absurd i
-unsigned_one text reads one Twice l h i = absurd h
-unsigned_one text reads one Want l h i = absurd h
-unsigned_one text reads one (Number e) Twice h i = absurd i
-unsigned_one text reads one (Number e) Want h i = absurd i
+unsigned_one text reads one Syntax l h i = absurd i
+unsigned_one text reads one (Number e) l h i = absurd i
+unsigned_one text reads one k l h i = absurd h
 
 pub value_one : (word : Sort) (text : List ℕ) → HasOne (ReadsVolts text) → HasOne (ReadsAmperes text) → (k l : BiasKind) → ValueFault word text k → ValueFault word text l → l ≡ k
 value_one Supply text v a = refused_one (ReadsVolts text) v
 value_one DropLimit text v a = unsigned_one text (ReadsVolts text) v
 value_one Cell text v a = unsigned_one text (ReadsAmperes text) a
 value_one Instance text v a = unsigned_one text (ReadsAmperes text) a
-value_one Pad text v a = λ k l h i. absurd h
-value_one Mark text v a = λ k l h i. absurd h
-value_one Comment text v a = λ k l h i. absurd h
-value_one Other text v a = λ k l h i. absurd h
-value_one LineEnd text v a = λ k l h i. absurd h
-value_one TextEnd text v a = λ k l h i. absurd h
+value_one word text v a = λ k l h i. absurd h
 
 pub place_one : (word : Sort) (text : List ℕ) → HasOne (ReadsMicrometres text) → (k l : BiasKind) → PlaceFault word text k → PlaceFault word text l → l ≡ k
 place_one Pad text m = refused_one (ReadsMicrometres text) m
-place_one Supply text m = λ k l h i. absurd h
-place_one DropLimit text m = λ k l h i. absurd h
-place_one Cell text m = λ k l h i. absurd h
-place_one Instance text m = λ k l h i. absurd h
-place_one Mark text m = λ k l h i. absurd h
-place_one Comment text m = λ k l h i. absurd h
-place_one Other text m = λ k l h i. absurd h
-place_one LineEnd text m = λ k l h i. absurd h
-place_one TextEnd text m = λ k l h i. absurd h
+place_one word text m = λ k l h i. absurd h
 
 -- ## names
 

@@ -86,40 +86,22 @@ same_bias a b e f g h i =
 
 one_supply : ReadsOne SpiceReads → SaysOne SaysSupply
 one_supply one (first ∷ net ∷ volts ∷ stop ∷ []) a b h k = same_supply a b (h.0 ∙ sym k.0) (h.1 ∙ sym k.1) (one 24 (10 ^ 25) volts.text a.volts b.volts h.2 k.2)
-one_supply one [] a b h k = absurd h
-one_supply one (x ∷ []) a b h k = absurd h
-one_supply one (x ∷ y ∷ []) a b h k = absurd h
-one_supply one (x ∷ y ∷ z ∷ []) a b h k = absurd h
-one_supply one (x ∷ y ∷ z ∷ w ∷ v ∷ words) a b h k = absurd h
+one_supply one line a b h k = absurd h
 
 one_limit : ReadsOne SpiceReads → SaysOne SaysDropLimit
 one_limit one (first ∷ net ∷ volts ∷ stop ∷ []) a b h k = same_limit a b (h.0 ∙ sym k.0) (h.1 ∙ sym k.1) (one 24 (10 ^ 25) volts.text a.volts b.volts h.2 k.2)
-one_limit one [] a b h k = absurd h
-one_limit one (x ∷ []) a b h k = absurd h
-one_limit one (x ∷ y ∷ []) a b h k = absurd h
-one_limit one (x ∷ y ∷ z ∷ []) a b h k = absurd h
-one_limit one (x ∷ y ∷ z ∷ w ∷ v ∷ words) a b h k = absurd h
+one_limit one line a b h k = absurd h
 
 one_amps : ReadsOne SpiceReads → SaysOne SaysAmps
 one_amps one (first ∷ name ∷ amperes ∷ stop ∷ []) a b h k =
     let low = one 15 (10 ^ 18) amperes.text a.low b.low h.2 k.2 in
     same_amps a b (h.0 ∙ sym k.0) (h.1 ∙ sym k.1) low (h.4 ∙ (low ∙ sym k.4))
-one_amps one [] a b h k = absurd h
-one_amps one (x ∷ []) a b h k = absurd h
-one_amps one (x ∷ y ∷ []) a b h k = absurd h
-one_amps one (x ∷ y ∷ z ∷ []) a b h k = absurd h
-one_amps one (x ∷ y ∷ z ∷ w ∷ v ∷ words) a b h k = absurd h
+one_amps one line a b h k = absurd h
 
 one_pad : ReadsOne DecimalReads → SaysOne SaysPad
 one_pad one (first ∷ net ∷ layer ∷ x ∷ y ∷ stop ∷ []) a b h k =
     same_pad a b (h.0 ∙ sym k.0) (h.1 ∙ sym k.1) (h.2 ∙ sym k.2) (one 6 (10 ^ 11) x.text a.x b.x h.3 k.3) (one 6 (10 ^ 11) y.text a.y b.y h.4 k.4)
-one_pad one [] a b h k = absurd h
-one_pad one (x ∷ []) a b h k = absurd h
-one_pad one (x ∷ y ∷ []) a b h k = absurd h
-one_pad one (x ∷ y ∷ z ∷ []) a b h k = absurd h
-one_pad one (x ∷ y ∷ z ∷ w ∷ []) a b h k = absurd h
-one_pad one (x ∷ y ∷ z ∷ w ∷ v ∷ []) a b h k = absurd h
-one_pad one (x ∷ y ∷ z ∷ w ∷ v ∷ u ∷ t ∷ words) a b h k = absurd h
+one_pad one line a b h k = absurd h
 
 one_bias : ReadsOne DecimalReads → ReadsOne SpiceReads → (units : List (List Token)) (a b : Bias) → IsBias units a → IsBias units b → a ≡ b
 one_bias d s units a b h k = same_bias a b

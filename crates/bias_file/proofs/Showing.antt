@@ -73,10 +73,8 @@ show_five units xs d word kind r count first e finds =
     (shown units (a ∷ b ∷ l ∷ x ∷ y ∷ []) 4 shows kind (λ found h. h) (λ kind h. (refl, h)) (subst (λ z. Finds (PlaceFault z y.text) kind) first finds)))
 
 pub shows_nothing : (units : List (List Token)) (xs : List Word) → (length xs ≡ 2 → ⊥) → (length xs ≡ 3 → ⊥) → (length xs ≡ 4 → ⊥) → (length xs ≡ 5 → ⊥) → Shows format units (map token xs) None
-shows_nothing units [] h2 h3 h4 h5 = λ a h. h
-shows_nothing units (a ∷ []) h2 h3 h4 h5 = λ a h. h
 shows_nothing units (a ∷ b ∷ []) h2 h3 h4 h5 = absurd (h2 refl)
 shows_nothing units (a ∷ b ∷ x ∷ []) h2 h3 h4 h5 = absurd (h3 refl)
 shows_nothing units (a ∷ b ∷ x ∷ y ∷ []) h2 h3 h4 h5 = absurd (h4 refl)
 shows_nothing units (a ∷ b ∷ x ∷ y ∷ z ∷ []) h2 h3 h4 h5 = absurd (h5 refl)
-shows_nothing units (a ∷ b ∷ x ∷ y ∷ z ∷ w ∷ xs) h2 h3 h4 h5 = λ a h. h
+shows_nothing units xs h2 h3 h4 h5 = λ a h. h

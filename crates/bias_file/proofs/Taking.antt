@@ -184,15 +184,7 @@ not_pad pads first net layer x y other = λ units stop fine held.
 -- the sort of this number
 pad_sort : (sort : Sort) → the sorts.Pad sort ≡ true → sort ≡ sorts.Pad
 pad_sort sorts.Pad h = refl
-pad_sort sorts.Supply h = absurd (false_true h)
-pad_sort sorts.DropLimit h = absurd (false_true h)
-pad_sort sorts.Cell h = absurd (false_true h)
-pad_sort sorts.Instance h = absurd (false_true h)
-pad_sort sorts.Mark h = absurd (false_true h)
-pad_sort sorts.Comment h = absurd (false_true h)
-pad_sort sorts.Other h = absurd (false_true h)
-pad_sort sorts.LineEnd h = absurd (false_true h)
-pad_sort sorts.TextEnd h = absurd (false_true h)
+pad_sort sort h = absurd (false_true h)
 
 pub pad_unread_x : (pads : List PadAt) (first net layer x y : Token) (r : Result ℤ DecimalError) → the sorts.Pad (sort_of first) ≡ true →
     ReadsMicrometres x.text r → ((v : ℤ) → r ≡ Ok v → ⊥) → TakesPad pads pads first net layer x y
@@ -253,11 +245,6 @@ unit_of_four old new xs d (Err x) count takes = tt
 unit_of_four old new xs d (Ok x) count takes = subst (λ z. TakesLine old new (map token z)) (sym (four xs d count)) (takes (token (get_or xs 3 d)))
 
 pub other_unit : (lists : Lists) (xs : List Word) → (length xs ≡ 4 → ⊥) → (length xs ≡ 6 → ⊥) → TakesLine lists lists (map token xs)
-other_unit lists [] h4 h6 = says_nothing lists [] (λ word. refl) refl
-other_unit lists (a ∷ []) h4 h6 = says_nothing lists (map token (a ∷ [])) (λ word. refl) refl
-other_unit lists (a ∷ b ∷ []) h4 h6 = says_nothing lists (map token (a ∷ b ∷ [])) (λ word. refl) refl
-other_unit lists (a ∷ b ∷ x ∷ []) h4 h6 = says_nothing lists (map token (a ∷ b ∷ x ∷ [])) (λ word. refl) refl
 other_unit lists (a ∷ b ∷ x ∷ y ∷ []) h4 h6 = absurd (h4 refl)
-other_unit lists (a ∷ b ∷ x ∷ y ∷ z ∷ []) h4 h6 = says_nothing lists (map token (a ∷ b ∷ x ∷ y ∷ z ∷ [])) (λ word. refl) refl
 other_unit lists (a ∷ b ∷ x ∷ y ∷ z ∷ w ∷ []) h4 h6 = absurd (h6 refl)
-other_unit lists (a ∷ b ∷ x ∷ y ∷ z ∷ w ∷ u ∷ xs) h4 h6 = says_nothing lists (map token (a ∷ b ∷ x ∷ y ∷ z ∷ w ∷ u ∷ xs)) (λ word. refl) refl
+other_unit lists xs h4 h6 = says_nothing lists (map token xs) (λ word. refl) refl

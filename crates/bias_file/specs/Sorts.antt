@@ -5,7 +5,7 @@ use Rattle.std.specs.Str.{bytes_eq}
 use Rattle.bias_file.specs.declared.sort.Sort.{Sort}
 use Rattle.bias_file.specs.declared.sort.Sort.TheVariants.{Supply, DropLimit, Pad, Cell, Instance, Mark, Comment, Other, LineEnd, TextEnd}
 use Rattle.reading.specs.declared.word.Form.{Form}
-use Rattle.reading.specs.declared.word.Form.TheVariants.{Bare, Quoted, Braced, Break, Semicolon, End}
+use Rattle.reading.specs.declared.word.Form.TheVariants.{Break, End}
 use Rattle.reading.specs.Words.{Token}
 
 abbrev pub number_of : Sort → ℕ
@@ -49,10 +49,7 @@ sort_of_text text =
 abbrev pub sort_with : Form → List ℕ → Sort
 sort_with Break text = LineEnd
 sort_with End text = TextEnd
-sort_with Bare text = sort_of_text text
-sort_with Quoted text = sort_of_text text
-sort_with Braced text = sort_of_text text
-sort_with Semicolon text = sort_of_text text
+sort_with _ text = sort_of_text text
 
 abbrev pub sort_of : Token → Sort
 sort_of word = sort_with word.form word.text

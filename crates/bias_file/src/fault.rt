@@ -45,12 +45,7 @@ pub(crate) fn value_fault(word: Sort, text: &[u8]) -> Option<BiasKind>
         Sort::DropLimit => kind_refused_unsigned(text, volts(text)),
         Sort::Cell => kind_refused_unsigned(text, amperes(text)),
         Sort::Instance => kind_refused_unsigned(text, amperes(text)),
-        Sort::Pad => None,
-        Sort::Mark => None,
-        Sort::Comment => None,
-        Sort::Other => None,
-        Sort::LineEnd => None,
-        Sort::TextEnd => None,
+        _ => None,
     }
 }
 
@@ -60,15 +55,7 @@ pub(crate) fn place_fault(word: Sort, text: &[u8]) -> Option<BiasKind>
 {
     match word {
         Sort::Pad => kind_refused(micrometres(text)),
-        Sort::Supply => None,
-        Sort::DropLimit => None,
-        Sort::Cell => None,
-        Sort::Instance => None,
-        Sort::Mark => None,
-        Sort::Comment => None,
-        Sort::Other => None,
-        Sort::LineEnd => None,
-        Sort::TextEnd => None,
+        _ => None,
     }
 }
 
@@ -81,12 +68,7 @@ fn stands_again<'a>(lists: &Lists<'a>, word: Sort, name: &'a [u8]) -> bool
         Sort::DropLimit => lists.drops.names.contains(name),
         Sort::Cell => lists.cells.names.contains(name),
         Sort::Instance => lists.instances.names.contains(name),
-        Sort::Pad => false,
-        Sort::Mark => false,
-        Sort::Comment => false,
-        Sort::Other => false,
-        Sort::LineEnd => false,
-        Sort::TextEnd => false,
+        _ => false,
     }
 }
 

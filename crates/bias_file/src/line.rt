@@ -98,12 +98,7 @@ fn take_value<'a>(
         Sort::DropLimit => take_drop_limit(&mut lists.drops, alloc, first, name, value),
         Sort::Cell => take_amps(&mut lists.cells, alloc, first, name, value),
         Sort::Instance => take_amps(&mut lists.instances, alloc, first, name, value),
-        Sort::Pad => Ok(()),
-        Sort::Mark => Ok(()),
-        Sort::Comment => Ok(()),
-        Sort::Other => Ok(()),
-        Sort::LineEnd => Ok(()),
-        Sort::TextEnd => Ok(()),
+        _ => Ok(()),
     }
 }
 
@@ -113,15 +108,7 @@ fn is_pad(word: Sort) -> bool
 {
     match word {
         Sort::Pad => true,
-        Sort::Supply => false,
-        Sort::DropLimit => false,
-        Sort::Cell => false,
-        Sort::Instance => false,
-        Sort::Mark => false,
-        Sort::Comment => false,
-        Sort::Other => false,
-        Sort::LineEnd => false,
-        Sort::TextEnd => false,
+        _ => false,
     }
 }
 

@@ -37,14 +37,7 @@ fn section_behind_word(sort: Sort) -> Section
     match sort {
         Sort::LineEnd => Section::LineStart,
         Sort::TextEnd => Section::Nothing,
-        Sort::Supply => Section::Remark,
-        Sort::DropLimit => Section::Remark,
-        Sort::Pad => Section::Remark,
-        Sort::Cell => Section::Remark,
-        Sort::Instance => Section::Remark,
-        Sort::Mark => Section::Remark,
-        Sort::Comment => Section::Remark,
-        Sort::Other => Section::Remark,
+        _ => Section::Remark,
     }
 }
 

@@ -81,9 +81,6 @@ pub(crate) fn sort_of(word: &Word<'_>) -> Sort
     match word.form {
         Form::Break => Sort::LineEnd,
         Form::End => Sort::TextEnd,
-        Form::Bare => sort_of_text(word.text),
-        Form::Quoted => sort_of_text(word.text),
-        Form::Braced => sort_of_text(word.text),
-        Form::Semicolon => sort_of_text(word.text),
+        _ => sort_of_text(word.text),
     }
 }

@@ -22,11 +22,13 @@ section_behind_word LineEnd = LineStart
 section_behind_word TextEnd = Nothing
 section_behind_word _ = Remark
 
+-- the section behind a unit, by its last word
 abbrev pub section_behind : List Token → Section
 section_behind [] = LineStart
 section_behind (word ∷ []) = section_behind_word (sort_of word)
 section_behind (word ∷ next ∷ words) = section_behind (next ∷ words)
 
+-- the section behind these units, by the last of them; a text begins with a line
 abbrev pub section_of : List (List Token) → Section
 section_of [] = LineStart
 section_of (unit ∷ []) = section_behind unit

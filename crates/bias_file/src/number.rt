@@ -1,6 +1,6 @@
 //! The numbers of a bias file.
-ghost use Rattle.bias_file.specs.Numbers.{ReadsAmperes, ReadsMicrometres, ReadsVolts};
 ghost use Rattle.std.specs.Prelude.{◌≡◌, ◌≤◌, ◌^◌, ℤ, unsigned_abs, IfOk, Result};
+ghost use Rattle.bias_file.specs.Numbers.{ReadsVolts, ReadsAmperes, ReadsMicrometres};
 ghost use Rattle.fixed_decimal.specs.declared.error.DecimalError.{DecimalError as Error};
 
 use fixed_decimal::{DecimalError, read, read_spice, texts_have_one_answer};

@@ -2,3 +2,4 @@ mod Held
 mod Listed
 mod Reading
 mod Sending
+mod Tallies

@@ -1,14 +1,14 @@
 -- How a run of writes goes on.
 use Rattle.std.proofs.Common.{ℕ, ◌+◌, List, ◌++◌, take, drop, Option, Some, None, sym, ◌∙◌, ap, append_assoc}
 use Rattle.std.proofs.Math.Seq.{take-add}
-use Rattle.outside.specs.Told.{WhereTold}
+use Rattle.outside.specs.Known.{WhereKnown}
 use Rattle.outside.specs.Sink.{Adds}
 
--- the first bytes of these were added
+-- The first bytes of these were added.
 abbrev pub Sent : List ℕ → ℕ → Option (List ℕ) → Option (List ℕ) → Type 0
-Sent bytes sent old new = WhereTold (Adds (take sent bytes)) old new
+Sent bytes sent old new = WhereKnown (Adds (take sent bytes)) old new
 
--- one write more
+-- One write more.
 pub more_sent : (bytes : List ℕ) (sent n : ℕ) (first old new : Option (List ℕ)) → Sent bytes sent first old → Sent (drop sent bytes) n old new → Sent bytes (sent + n) first new
 more_sent bytes sent n None None None so_far one = tt
 more_sent bytes sent n (Some a) (Some b) (Some c) so_far one =

@@ -1,7 +1,11 @@
+pub mod Calls
 pub mod Counts
+pub mod Directory
 pub mod Entries
 pub mod Files
-pub mod Memory
-pub mod Refused
+pub mod Known
+pub mod MemFiles
+pub mod MemSink
 pub mod Sink
-pub mod Told
+pub mod Whole
+pub mod inside

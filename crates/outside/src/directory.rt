@@ -1,8 +1,8 @@
 // Files that are held in memory.
 ghost use Rattle.std.specs.Prelude.{◌≡◌, ◌-◌, [], length, map, min, MatchOption, OnOk, OnErr, Some, None};
-ghost use Rattle.outside.specs.Entries.{first_of};
-ghost use Rattle.outside.specs.Files.{text_of, IsReadAt, Holds, Appends};
-ghost use Rattle.outside.specs.Memory.{stored};
+ghost use Rattle.outside.specs.Directory.{stored};
+ghost use Rattle.outside.specs.Entries.{value_under};
+ghost use Rattle.outside.specs.Files.{IsReadAt, MakesEmpty, Appends};
 
 use crate::Name;
 use crate::entries::place_of;
@@ -18,7 +18,7 @@ pub(crate) struct Directory {
 
 impl Model for Directory {
     ghost use Rattle.std.specs.Prelude.{List, ℕ, map};
-    ghost use Rattle.outside.specs.Memory.{stored};
+    ghost use Rattle.outside.specs.Directory.{stored};
 
     ghost Value = { List (List ℕ × List ℕ) };
 
@@ -34,7 +34,8 @@ impl Directory {
 
     /// The bytes of a file.
     pub(crate) fn bytes(&self, name: &str) -> Option<&[u8]>
-        ensures { MatchOption result (first_of self.now name.now ≡ None) (λ bytes. first_of self.now name.now ≡ Some bytes.now) }
+        ensures { MatchOption result (value_under self.now name.now ≡ None)
+            (λ bytes. value_under self.now name.now ≡ Some bytes.now) }
     {
         match place_of(&self.files, name.as_bytes()) {
             Some(place) => Some(&self.files[place].1),
@@ -44,7 +45,7 @@ impl Directory {
 
     /// Makes a file empty, or adds an empty one. It fails only for want of memory.
     pub(crate) fn create(&mut self, name: &str) -> Result<(), AllocError>
-        ensures created { OnOk result (Holds name.now [] (first_of self.old) (first_of self.new)) }
+        ensures created { OnOk result (MakesEmpty name.now (value_under self.old) (value_under self.new)) }
         ensures kept { OnErr result (self.new ≡ self.old) }
     {
         match place_of(&self.files, name.as_bytes()) {
@@ -59,7 +60,8 @@ impl Directory {
 
     /// Adds bytes at the end of a file, which it makes where there is none. It fails only for want of memory.
     pub(crate) fn append(&mut self, name: &str, piece: &[u8]) -> Result<(), AllocError>
-        ensures appended { OnOk result (Appends name.now piece.now (length piece.now) (first_of self.old) (first_of self.new)) }
+        ensures appended { OnOk result
+            (Appends name.now piece.now (length piece.now) (value_under self.old) (value_under self.new)) }
         ensures kept { OnErr result (self.new ≡ self.old) }
     {
         match place_of(&self.files, name.as_bytes()) {
@@ -74,13 +76,13 @@ impl Directory {
     }
 }
 
-/// Copies bytes of a text from a place on into a slice, as many as there are and the slice takes.
-pub(crate) fn read_text(text: &[u8], at: u64, into: &mut [u8]) -> usize
-    ensures read { IsReadAt text.now at result into.new }
-    ensures all { result ≡ min (length into.old) (length text.now - at) }
+/// Copies bytes of a file from a place on into a slice, as many as there are and the slice takes.
+pub(crate) fn read_bytes(bytes: &[u8], at: u64, into: &mut [u8]) -> usize
+    ensures read { IsReadAt bytes.now at result into.new }
+    ensures all { result ≡ min (length into.old) (length bytes.now - at) }
 {
-    let start = at.min(text.len() as u64) as usize;
-    let count = into.len().min(text.len() - start);
-    into[..count].copy_from_slice(&text[start..start + count]);
+    let start = at.min(bytes.len() as u64) as usize;
+    let count = into.len().min(bytes.len() - start);
+    into[..count].copy_from_slice(&bytes[start..start + count]);
     count
 }

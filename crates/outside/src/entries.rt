@@ -1,6 +1,6 @@
 // Lists of names with a value each, of which the first entry of a name counts.
 ghost use Rattle.std.specs.Prelude.{IfSome, IfNone};
-ghost use Rattle.outside.specs.Entries.{IsFirstPlace, IsAbsent};
+ghost use Rattle.outside.specs.inside.Entries.{IsFirstPlace, IsAbsent};
 
 use crate::Name;
 

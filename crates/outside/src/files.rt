@@ -1,8 +1,8 @@
 // Files as the program sees them: what a call may do to them, and the counts of what failed.
-ghost use Rattle.std.specs.Prelude.{◌≡◌, ℕ, ◌≤◌, ◌<◌, List, [], length, Option, IfOk, IfSome, OnOk, OnErr, OnSome, IsErrOf};
-ghost use Rattle.outside.specs.Counts.{Rose, NoneFalls};
-ghost use Rattle.outside.specs.Told.{WhereTold};
-ghost use Rattle.outside.specs.Files.{Holdings, text_of, IsReadAt, Holds, Appends};
+ghost use Rattle.std.specs.Prelude.{◌≡◌, ◌≤◌, ◌<◌, List, ℕ, length, Option, IfOk, IfSome, OnOk, OnErr, OnSome, IsErrOf};
+ghost use Rattle.outside.specs.Counts.{FaultCounts, NoneFalls, Rose};
+ghost use Rattle.outside.specs.Known.{WhereKnown};
+ghost use Rattle.outside.specs.Files.{Holdings, bytes_in, IsReadAt, MakesEmpty, Appends};
 
 use std::alloc::AllocError;
 
@@ -26,55 +26,56 @@ impl From<AllocError> for Refusal {
     }
 }
 
-/// Files by name, each a text of bytes.
+/// Files by name, each a list of bytes.
 ///
-/// What they hold may be told or not, and that never changes. A count never falls, and stands still at 2^64 - 1.
+/// Whether it is known what they hold never changes.
+/// No count ever falls, and one that stands at 2^64 - 1 counts as risen.
 pub trait Files {
-    /// What the files hold, where it is told.
-    ghost told: { Self → Option Holdings };
+    /// What the files hold, where that is known.
+    ghost known: { Self → Option Holdings };
 
-    /// How many calls failed.
-    ghost faults: { Self → ℕ };
+    /// The counts of the calls that failed. Those by name mean something only where it is known what the files hold.
+    ghost counts: { Self → FaultCounts };
 
-    /// How many reads of a name failed. It means something only where the holdings are told.
-    ghost failed_reads: { Self → List ℕ → ℕ };
-
-    /// How many creates and appends on a name failed. It means something only where the holdings are told.
-    ghost failed_writes: { Self → List ℕ → ℕ };
-
-    /// Reads bytes of a file from a place on into a slice, and answers how many. No byte into a slice that is not empty is the end of the file.
+    /// Reads bytes of a file from a place on into a slice, and answers how many.
+    /// No byte into a slice that is not empty is the end of the file.
     fn read_at(&mut self, name: &str, at: u64, into: &mut [u8]) -> Result<usize, Refusal>
-        ensures kept { told self.new ≡ told self.old }
+        ensures kept { known self.new ≡ known self.old }
         ensures within { IfOk result (λ n. n ≤ length into.old) }
-        ensures read { IfOk result (λ n. IfSome (told self.old) (λ held. IsReadAt (text_of held name.now) at n into.new)) }
-        ensures faults { faults self.old ≤ faults self.new }
-        ensures failed_reads { NoneFalls (failed_reads self.old) (failed_reads self.new) }
-        ensures failed_writes { NoneFalls (failed_writes self.old) (failed_writes self.new) }
-        ensures failed { IsErrOf result Refusal.Failed → Rose (faults self.old) (faults self.new) }
-        ensures failed_read { IsErrOf result Refusal.Failed →
-            OnSome (told self.old) (Rose (failed_reads self.old name.now) (failed_reads self.new name.now)) };
+        ensures read { IfOk result
+            (λ n. IfSome (known self.old) (λ held. IsReadAt (bytes_in held name.now) at n into.new)) }
+
+        // A call that is not refused counts no fault, and one that failed counts one.
+        ensures calm { OnOk result (counts self.new ≡ counts self.old) }
+        ensures none_falls { NoneFalls (counts self.old) (counts self.new) }
+        ensures failed { IsErrOf result Refusal.Failed → Rose (counts self.old).faults (counts self.new).faults }
+        ensures failed_read { IsErrOf result Refusal.Failed
+            → OnSome (known self.old) (Rose ((counts self.old).reads name.now) ((counts self.new).reads name.now)) };
 
     /// Makes a file with no bytes under a name, in the place of the one that was there.
     fn create(&mut self, name: &str) -> Result<(), Refusal>
-        ensures created { OnOk result (WhereTold (Holds name.now []) (told self.old) (told self.new)) }
-        ensures kept { OnErr result (told self.new ≡ told self.old) }
-        ensures faults { faults self.old ≤ faults self.new }
-        ensures failed_reads { NoneFalls (failed_reads self.old) (failed_reads self.new) }
-        ensures failed_writes { NoneFalls (failed_writes self.old) (failed_writes self.new) }
-        ensures failed { IsErrOf result Refusal.Failed → Rose (faults self.old) (faults self.new) }
-        ensures failed_write { IsErrOf result Refusal.Failed →
-            OnSome (told self.old) (Rose (failed_writes self.old name.now) (failed_writes self.new name.now)) };
+        ensures created { OnOk result (WhereKnown (MakesEmpty name.now) (known self.old) (known self.new)) }
+        ensures kept { OnErr result (known self.new ≡ known self.old) }
+
+        // A call that is not refused counts no fault, and one that failed counts one.
+        ensures calm { OnOk result (counts self.new ≡ counts self.old) }
+        ensures none_falls { NoneFalls (counts self.old) (counts self.new) }
+        ensures failed { IsErrOf result Refusal.Failed → Rose (counts self.old).faults (counts self.new).faults }
+        ensures failed_write { IsErrOf result Refusal.Failed
+            → OnSome (known self.old) (Rose ((counts self.old).writes name.now) ((counts self.new).writes name.now)) };
 
     /// Adds the first bytes of a piece to a file, which it makes where there is none, and answers how many.
     fn append(&mut self, name: &str, piece: &[u8]) -> Result<usize, Refusal>
-        ensures appended { IfOk result (λ n. WhereTold (Appends name.now piece.now n) (told self.old) (told self.new)) }
-        ensures kept { OnErr result (told self.new ≡ told self.old) }
+        ensures appended { IfOk result
+            (λ n. WhereKnown (Appends name.now piece.now n) (known self.old) (known self.new)) }
+        ensures kept { OnErr result (known self.new ≡ known self.old) }
         ensures within { IfOk result (λ n. n ≤ length piece.now) }
         ensures some { IfOk result (λ n. 0 < length piece.now → 0 < n) }
-        ensures faults { faults self.old ≤ faults self.new }
-        ensures failed_reads { NoneFalls (failed_reads self.old) (failed_reads self.new) }
-        ensures failed_writes { NoneFalls (failed_writes self.old) (failed_writes self.new) }
-        ensures failed { IsErrOf result Refusal.Failed → Rose (faults self.old) (faults self.new) }
-        ensures failed_write { IsErrOf result Refusal.Failed →
-            OnSome (told self.old) (Rose (failed_writes self.old name.now) (failed_writes self.new name.now)) };
+
+        // A call that is not refused counts no fault, and one that failed counts one.
+        ensures calm { OnOk result (counts self.new ≡ counts self.old) }
+        ensures none_falls { NoneFalls (counts self.old) (counts self.new) }
+        ensures failed { IsErrOf result Refusal.Failed → Rose (counts self.old).faults (counts self.new).faults }
+        ensures failed_write { IsErrOf result Refusal.Failed
+            → OnSome (known self.old) (Rose ((counts self.old).writes name.now) ((counts self.new).writes name.now)) };
 }

@@ -1,13 +1,14 @@
-//! What the other crates see of the outside: files and sinks with their written meaning, names, words and places in a text.
+//! What the other crates see of the outside: files and sinks with their written meaning, names, words and places in
+//! a text.
 //!
 //! [`Files`] and [`Sink`] say what a file and a stream of written bytes mean, and count what failed.
 //! [`read_whole`] and [`send`] go over them with whole texts.
-//! [`MemFiles`] and [`MemSink`] are the outside in memory, with calls that fail where they are told to;
+//! [`MemFiles`] and [`MemSink`] are the outside in memory, with calls that fail where they are listed;
 //! [`SoundFiles`] and [`SoundSink`] never fail; [`StdFiles`] and [`StdSink`] are real files and standard output.
 #![tactic(auto)]
 
 mod argv;
-mod counter;
+mod calls;
 mod directory;
 mod entries;
 mod files;
@@ -31,7 +32,7 @@ pub use sink::Sink;
 pub use sound::{SoundFiles, SoundSink, sound_counts_never_rise};
 pub use std_files::StdFiles;
 pub use std_sink::StdSink;
-pub use whole::{ReadError, WriteError, read_whole, send};
+pub use whole::{LONGEST_TEXT, ReadError, WriteError, read_whole, send};
 
 #[cfg(test)]
 mod tests;

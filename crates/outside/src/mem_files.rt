@@ -1,42 +1,33 @@
 // Files in memory, of which some calls fail.
-ghost use Rattle.std.specs.Prelude.{◌≡◌, ◌≢◌, ◌⊎◌, ◌↔◌, ◌≤◌, ◌-◌, [], length, map, min, Contains, MatchOption, Some, None, IsTrue, IfOk, OnOk, OnErr, IsErrOf};
-ghost use Rattle.outside.specs.Counts.{Rose, NoneFalls};
-ghost use Rattle.outside.specs.Entries.{first_of, count_of};
-ghost use Rattle.outside.specs.Files.{text_of, IsReadAt, Holds, Appends};
-ghost use Rattle.outside.specs.Memory.{stored, FailsNext, CountsCall};
+ghost use Rattle.std.specs.Prelude.{◌≡◌, ◌≢◌, ◌⊎◌, ◌-◌, [], length, map, min, MatchOption, Some, None, IfOk, OnOk, OnErr, IsErrOf};
+ghost use Rattle.outside.specs.Calls.{FailsNext, IsCounted, IsUncounted, CountsNone, CountsRead, CountsWrite, counts_of};
+ghost use Rattle.outside.specs.Counts.{NoneFalls, Rose};
+ghost use Rattle.outside.specs.Directory.{stored};
+ghost use Rattle.outside.specs.Entries.{value_under};
+ghost use Rattle.outside.specs.Files.{bytes_in, IsReadAt, MakesEmpty, Appends};
 
-use crate::counter::Counter;
-use crate::directory::{Directory, read_text};
+use crate::calls::Calls;
+use crate::directory::{Directory, read_bytes};
 use crate::{Files, Name, Refusal};
 use std::alloc::{AllocError, Global};
 use std::marker::Model;
 
-/// Files in memory, for tests: what they hold is told, and the calls that are listed fail.
+/// Files in memory, for tests: what they hold is known, and the calls that are listed fail.
 ///
 /// The calls on a name are counted from 1, and their number stands still at 2^64 - 1.
+/// A call that runs out of memory is not counted, so the next call on the name has the number that it had.
 #[derive(Debug, Drop)]
 pub struct MemFiles {
     directory: Directory,
-    failing: Vec<(Name, u64)>,
-    calls: Counter,
-    failed_reads: Counter,
-    failed_writes: Counter,
-    faults: u64,
+    calls: Calls,
 }
 
 impl Model for MemFiles {
-    ghost use Rattle.outside.specs.Memory.{FilesInMemory};
+    ghost use Rattle.outside.specs.MemFiles.{FilesInMemory};
 
     ghost Value = { FilesInMemory };
 
-    ghost view = { λ files. record {
-      files = files.directory;
-      failing = files.failing.items;
-      calls = files.calls;
-      failed_reads = files.failed_reads;
-      failed_writes = files.failed_writes;
-      faults = files.faults;
-    } };
+    ghost view = { λ files. record { files = files.directory; calls = files.calls } };
 }
 
 impl MemFiles {
@@ -50,136 +41,117 @@ impl MemFiles {
     ) -> Result<MemFiles, AllocError>
         ensures { IfOk result (λ made. made ≡ record {
           files = map stored files.items;
-          failing = failing.items;
-          calls = [];
-          failed_reads = [];
-          failed_writes = [];
-          faults = 0;
+          calls = record { failing = failing.items; tallies = []; faults = 0 };
         }) }
     {
         Ok(MemFiles {
             directory: Directory::new(alloc, files),
-            failing,
-            calls: Counter::new(alloc),
-            failed_reads: Counter::new(alloc),
-            failed_writes: Counter::new(alloc),
-            faults: 0,
+            calls: Calls::new(alloc, failing),
         })
     }
 
     /// The bytes of a file. `None` where there is no file of that name.
     pub fn bytes(&self, name: &str) -> Option<&[u8]>
-        ensures { MatchOption result (first_of self.now.files name.now ≡ None) (λ bytes. first_of self.now.files name.now ≡ Some bytes.now) }
+        ensures { MatchOption result (value_under self.now.files name.now ≡ None)
+            (λ bytes. value_under self.now.files name.now ≡ Some bytes.now) }
     {
         self.directory.bytes(name)
     }
 }
 
 impl Files for MemFiles {
-    ghost told = { λ files. Some (first_of files.files) };
+    ghost known = { λ files. Some (value_under files.files) };
 
-    ghost faults = { λ files. files.faults };
-
-    ghost failed_reads = { λ files. count_of files.failed_reads };
-
-    ghost failed_writes = { λ files. count_of files.failed_writes };
+    ghost counts = { λ files. counts_of files.calls };
 
     fn read_at(&mut self, name: &str, at: u64, into: &mut [u8]) -> Result<usize, Refusal>
         ensures kept { self.new.files ≡ self.old.files }
-        ensures listed { self.new.failing ≡ self.old.failing }
-        ensures read { IfOk result (λ n. IsReadAt (text_of (first_of self.old.files) name.now) at n into.new) }
-        ensures all { IfOk result (λ n. n ≡ min (length into.old) (length (text_of (first_of self.old.files) name.now) - at)) }
+        ensures read { IfOk result (λ n. IsReadAt (bytes_in (value_under self.old.files) name.now) at n into.new) }
+        ensures all { IfOk result
+            (λ n. n ≡ min (length into.old) (length (bytes_in (value_under self.old.files) name.now) - at)) }
 
         // It fails exactly where its call is listed, or where there is no such file.
-        ensures cause { IsErrOf result Refusal.Failed → FailsNext self.old name.now ⊎ (first_of self.old.files name.now ≡ None) }
-        ensures no_cause { OnOk result ((FailsNext self.old name.now → ⊥) × (first_of self.old.files name.now ≢ None)) }
-        ensures counted { OnOk result (CountsCall name.now self.old self.new) }
-        ensures counted_failed { IsErrOf result Refusal.Failed → CountsCall name.now self.old self.new }
+        ensures cause { IsErrOf result Refusal.Failed
+            → FailsNext self.old.calls name.now ⊎ (value_under self.old.files name.now ≡ None) }
+        ensures no_cause { OnOk result
+            (¬ FailsNext self.old.calls name.now × (value_under self.old.files name.now ≢ None)) }
 
-        ensures faults { self.old.faults ≤ self.new.faults }
-        ensures failed_reads { NoneFalls (count_of self.old.failed_reads) (count_of self.new.failed_reads) }
-        ensures failed_writes { NoneFalls (count_of self.old.failed_writes) (count_of self.new.failed_writes) }
-        ensures failed { IsErrOf result Refusal.Failed → Rose self.old.faults self.new.faults }
-        ensures failed_read { IsErrOf result Refusal.Failed → Rose (count_of self.old.failed_reads name.now) (count_of self.new.failed_reads name.now) }
+        // What is counted of the call, whether it answers Ok, fails or runs out of memory.
+        ensures counted { OnOk result (IsCounted name.now CountsNone self.old.calls self.new.calls) }
+        ensures counted_failed { IsErrOf result Refusal.Failed
+            → IsCounted name.now (CountsRead name.now) self.old.calls self.new.calls }
+        ensures uncounted { IsErrOf result Refusal.Want → IsUncounted self.old.calls self.new.calls }
+
+        ensures calm { OnOk result (counts_of self.new.calls ≡ counts_of self.old.calls) }
+        ensures none_falls { NoneFalls (counts_of self.old.calls) (counts_of self.new.calls) }
+        ensures failed { IsErrOf result Refusal.Failed → Rose self.old.calls.faults self.new.calls.faults }
+        ensures failed_read { IsErrOf result Refusal.Failed
+            → Rose ((counts_of self.old.calls).reads name.now) ((counts_of self.new.calls).reads name.now) }
     {
-        self.calls.raise(name)?;
-        let number = self.calls.count(name);
-        if !is_listed(&self.failing, name, number) {
-            if let Some(text) = self.directory.bytes(name) {
-                return Ok(read_text(text, at, into));
+        let place = self.calls.place(name)?;
+        if !self.calls.fails_next(name, place) {
+            if let Some(bytes) = self.directory.bytes(name) {
+                let count = read_bytes(bytes, at, into);
+                self.calls.count(place);
+                return Ok(count);
             }
         }
-        self.failed_reads.raise(name)?;
-        self.faults = self.faults.saturating_add(1);
+        self.calls.count_failed_read(place);
         Err(Refusal::Failed)
     }
 
     fn create(&mut self, name: &str) -> Result<(), Refusal>
-        ensures created { OnOk result (Holds name.now [] (first_of self.old.files) (first_of self.new.files)) }
+        ensures created { OnOk result
+            (MakesEmpty name.now (value_under self.old.files) (value_under self.new.files)) }
         ensures kept { OnErr result (self.new.files ≡ self.old.files) }
-        ensures listed { self.new.failing ≡ self.old.failing }
 
         // It fails exactly where its call is listed.
-        ensures cause { IsErrOf result Refusal.Failed → FailsNext self.old name.now }
-        ensures no_cause { OnOk result (FailsNext self.old name.now → ⊥) }
-        ensures counted { OnOk result (CountsCall name.now self.old self.new) }
-        ensures counted_failed { IsErrOf result Refusal.Failed → CountsCall name.now self.old self.new }
+        ensures cause { IsErrOf result Refusal.Failed → FailsNext self.old.calls name.now }
+        ensures no_cause { OnOk result (¬ FailsNext self.old.calls name.now) }
 
-        ensures faults { self.old.faults ≤ self.new.faults }
-        ensures failed_reads { NoneFalls (count_of self.old.failed_reads) (count_of self.new.failed_reads) }
-        ensures failed_writes { NoneFalls (count_of self.old.failed_writes) (count_of self.new.failed_writes) }
-        ensures failed { IsErrOf result Refusal.Failed → Rose self.old.faults self.new.faults }
-        ensures failed_write { IsErrOf result Refusal.Failed → Rose (count_of self.old.failed_writes name.now) (count_of self.new.failed_writes name.now) }
+        // What is counted of the call, whether it answers Ok, fails or runs out of memory.
+        ensures counted { OnOk result (IsCounted name.now CountsNone self.old.calls self.new.calls) }
+        ensures counted_failed { IsErrOf result Refusal.Failed
+            → IsCounted name.now (CountsWrite name.now) self.old.calls self.new.calls }
+        ensures uncounted { IsErrOf result Refusal.Want → IsUncounted self.old.calls self.new.calls }
+
+        ensures calm { OnOk result (counts_of self.new.calls ≡ counts_of self.old.calls) }
+        ensures none_falls { NoneFalls (counts_of self.old.calls) (counts_of self.new.calls) }
+        ensures failed { IsErrOf result Refusal.Failed → Rose self.old.calls.faults self.new.calls.faults }
+        ensures failed_write { IsErrOf result Refusal.Failed
+            → Rose ((counts_of self.old.calls).writes name.now) ((counts_of self.new.calls).writes name.now) }
     {
-        self.calls.raise(name)?;
-        let number = self.calls.count(name);
-        if is_listed(&self.failing, name, number) {
-            self.failed_writes.raise(name)?;
-            self.faults = self.faults.saturating_add(1);
-            return Err(Refusal::Failed);
-        }
+        let place = self.calls.begin_write(name)?;
         self.directory.create(name)?;
+        self.calls.count(place);
         Ok(())
     }
 
     fn append(&mut self, name: &str, piece: &[u8]) -> Result<usize, Refusal>
-        ensures appended { IfOk result (λ n. Appends name.now piece.now n (first_of self.old.files) (first_of self.new.files)) }
+        ensures appended { IfOk result
+            (λ n. Appends name.now piece.now n (value_under self.old.files) (value_under self.new.files)) }
         ensures kept { OnErr result (self.new.files ≡ self.old.files) }
-        ensures listed { self.new.failing ≡ self.old.failing }
         ensures all { IfOk result (λ n. n ≡ length piece.now) }
 
         // It fails exactly where its call is listed.
-        ensures cause { IsErrOf result Refusal.Failed → FailsNext self.old name.now }
-        ensures no_cause { OnOk result (FailsNext self.old name.now → ⊥) }
-        ensures counted { OnOk result (CountsCall name.now self.old self.new) }
-        ensures counted_failed { IsErrOf result Refusal.Failed → CountsCall name.now self.old self.new }
+        ensures cause { IsErrOf result Refusal.Failed → FailsNext self.old.calls name.now }
+        ensures no_cause { OnOk result (¬ FailsNext self.old.calls name.now) }
 
-        ensures faults { self.old.faults ≤ self.new.faults }
-        ensures failed_reads { NoneFalls (count_of self.old.failed_reads) (count_of self.new.failed_reads) }
-        ensures failed_writes { NoneFalls (count_of self.old.failed_writes) (count_of self.new.failed_writes) }
-        ensures failed { IsErrOf result Refusal.Failed → Rose self.old.faults self.new.faults }
-        ensures failed_write { IsErrOf result Refusal.Failed → Rose (count_of self.old.failed_writes name.now) (count_of self.new.failed_writes name.now) }
+        // What is counted of the call, whether it answers Ok, fails or runs out of memory.
+        ensures counted { OnOk result (IsCounted name.now CountsNone self.old.calls self.new.calls) }
+        ensures counted_failed { IsErrOf result Refusal.Failed
+            → IsCounted name.now (CountsWrite name.now) self.old.calls self.new.calls }
+        ensures uncounted { IsErrOf result Refusal.Want → IsUncounted self.old.calls self.new.calls }
+
+        ensures calm { OnOk result (counts_of self.new.calls ≡ counts_of self.old.calls) }
+        ensures none_falls { NoneFalls (counts_of self.old.calls) (counts_of self.new.calls) }
+        ensures failed { IsErrOf result Refusal.Failed → Rose self.old.calls.faults self.new.calls.faults }
+        ensures failed_write { IsErrOf result Refusal.Failed
+            → Rose ((counts_of self.old.calls).writes name.now) ((counts_of self.new.calls).writes name.now) }
     {
-        self.calls.raise(name)?;
-        let number = self.calls.count(name);
-        if is_listed(&self.failing, name, number) {
-            self.failed_writes.raise(name)?;
-            self.faults = self.faults.saturating_add(1);
-            return Err(Refusal::Failed);
-        }
+        let place = self.calls.begin_write(name)?;
         self.directory.append(name, piece)?;
+        self.calls.count(place);
         Ok(piece.len())
     }
-}
-
-// A call on a name, by its number, is one of those that fail.
-fn is_listed(failing: &[(Name, u64)], name: &str, number: u64) -> bool
-    ensures { IsTrue result ↔ Contains failing.now (name.now, number) }
-{
-    for call in failing {
-        if call.1 == number && call.0.bytes() == name.as_bytes() {
-            return true;
-        }
-    }
-    false
 }

@@ -1,16 +1,16 @@
 // The outside in memory that never fails.
 ghost use Rattle.std.specs.Prelude.{◌≡◌, ◌↔◌, ◌-◌, ◌++◌, List, ℕ, [], length, map, min, MatchOption, Some, None, IsTrue, IsSome, IfOk, OnOk, OnErr, IsErrOf};
-ghost use Rattle.outside.specs.Counts.{Rose};
-ghost use Rattle.outside.specs.Entries.{first_of};
-ghost use Rattle.outside.specs.Files.{text_of, IsReadAt, Holds, Appends};
-ghost use Rattle.outside.specs.Memory.{stored};
+ghost use Rattle.outside.specs.Counts.{Rose, faults_alone};
+ghost use Rattle.outside.specs.Directory.{stored};
+ghost use Rattle.outside.specs.Entries.{value_under};
+ghost use Rattle.outside.specs.Files.{bytes_in, IsReadAt, MakesEmpty, Appends};
 
-use crate::directory::{Directory, read_text};
+use crate::directory::{Directory, read_bytes};
 use crate::{Files, Name, Refusal, Sink};
 use std::alloc::{AllocError, Global};
 use std::marker::Model;
 
-/// Files in memory of which no call fails but for want of memory. What they hold is told.
+/// Files in memory of which no call fails but for want of memory. What they hold is known.
 #[derive(Debug, Drop)]
 pub struct SoundFiles {
     directory: Directory,
@@ -36,40 +36,38 @@ impl SoundFiles {
 
     /// The bytes of a file. `None` where there is no file of that name.
     pub fn bytes(&self, name: &str) -> Option<&[u8]>
-        ensures { MatchOption result (first_of self.now name.now ≡ None) (λ bytes. first_of self.now name.now ≡ Some bytes.now) }
+        ensures { MatchOption result (value_under self.now name.now ≡ None)
+            (λ bytes. value_under self.now name.now ≡ Some bytes.now) }
     {
         self.directory.bytes(name)
     }
 
-    /// Tells whether there is a file of that name.
+    /// Whether there is a file of that name.
     pub fn holds(&self, name: &str) -> bool
-        ensures { IsTrue result ↔ IsSome (first_of self.now name.now) }
+        ensures { IsTrue result ↔ IsSome (value_under self.now name.now) }
     {
         self.directory.bytes(name).is_some()
     }
 }
 
 impl Files for SoundFiles {
-    ghost told = { λ files. Some (first_of files) };
+    ghost known = { λ files. Some (value_under files) };
 
-    ghost faults = { λ _. 0 };
-
-    ghost failed_reads = { λ _ _. 0 };
-
-    ghost failed_writes = { λ _ _. 0 };
+    ghost counts = { λ _. faults_alone 0 };
 
     fn read_at(&mut self, name: &str, at: u64, into: &mut [u8]) -> Result<usize, Refusal>
         ensures kept { self.new ≡ self.old }
-        ensures read { IfOk result (λ n. IsReadAt (text_of (first_of self.old) name.now) at n into.new) }
-        ensures all { IfOk result (λ n. n ≡ min (length into.old) (length (text_of (first_of self.old) name.now) - at)) }
+        ensures read { IfOk result (λ n. IsReadAt (bytes_in (value_under self.old) name.now) at n into.new) }
+        ensures all { IfOk result
+            (λ n. n ≡ min (length into.old) (length (bytes_in (value_under self.old) name.now) - at)) }
         ensures sound { IsErrOf result Refusal.Failed → ⊥ }
     {
-        let text = self.directory.bytes(name).unwrap_or(&[]);
-        Ok(read_text(text, at, into))
+        let bytes = self.directory.bytes(name).unwrap_or(&[]);
+        Ok(read_bytes(bytes, at, into))
     }
 
     fn create(&mut self, name: &str) -> Result<(), Refusal>
-        ensures created { OnOk result (Holds name.now [] (first_of self.old) (first_of self.new)) }
+        ensures created { OnOk result (MakesEmpty name.now (value_under self.old) (value_under self.new)) }
         ensures kept { OnErr result (self.new ≡ self.old) }
         ensures sound { IsErrOf result Refusal.Failed → ⊥ }
     {
@@ -78,7 +76,8 @@ impl Files for SoundFiles {
     }
 
     fn append(&mut self, name: &str, piece: &[u8]) -> Result<usize, Refusal>
-        ensures appended { IfOk result (λ n. Appends name.now piece.now n (first_of self.old) (first_of self.new)) }
+        ensures appended { IfOk result
+            (λ n. Appends name.now piece.now n (value_under self.old) (value_under self.new)) }
         ensures kept { OnErr result (self.new ≡ self.old) }
         ensures all { IfOk result (λ n. n ≡ length piece.now) }
         ensures sound { IsErrOf result Refusal.Failed → ⊥ }
@@ -88,7 +87,7 @@ impl Files for SoundFiles {
     }
 }
 
-/// A sink in memory of which no call fails but for want of memory. What was written is told.
+/// A sink in memory of which no call fails but for want of memory. What was written is known.
 #[derive(Debug, Drop)]
 pub struct SoundSink {
     bytes: Vec<u8>,
@@ -121,7 +120,7 @@ impl SoundSink {
 }
 
 impl Sink for SoundSink {
-    ghost told = { λ sink. Some sink };
+    ghost known = { λ sink. Some sink };
 
     ghost faults = { λ _. 0 };
 
@@ -138,6 +137,7 @@ impl Sink for SoundSink {
 
 /// Over sound files and a sound sink no fault is answered: their counts of faults never rise.
 pub fn sound_counts_never_rise()
-    ensures files { (old new : List (List ℕ × List ℕ)) → Rose (⟦<SoundFiles as Files>⟧.faults old) (⟦<SoundFiles as Files>⟧.faults new) → ⊥ }
-    ensures sink { (old new : List ℕ) → Rose (⟦<SoundSink as Sink>⟧.faults old) (⟦<SoundSink as Sink>⟧.faults new) → ⊥ }
+    ensures files { (old new : List (List ℕ × List ℕ))
+        → ¬ Rose (⟦<SoundFiles as Files>⟧.counts old).faults (⟦<SoundFiles as Files>⟧.counts new).faults }
+    ensures sink { (old new : List ℕ) → ¬ Rose (⟦<SoundSink as Sink>⟧.faults old) (⟦<SoundSink as Sink>⟧.faults new) }
 {}

@@ -1,6 +1,8 @@
-// Real files. What they hold is not told, and that they do what is passed on is trusted.
+// Real files. What they hold is not known, and that they do what is passed on is trusted.
 ghost use Rattle.std.specs.Prelude.{◌≡◌, ◌≤◌, ◌<◌, None, length, IfOk};
+ghost use Rattle.outside.specs.Counts.{faults_alone};
 
+use crate::calls::one_more;
 use crate::{Files, Refusal};
 use std::alloc::Global;
 use std::fs::OpenOptions;
@@ -51,19 +53,15 @@ impl<R: FileSystem> StdFiles<R> {
 }
 
 impl<R: FileSystem> Files for StdFiles<R> {
-    ghost told = { λ _. None };
+    ghost known = { λ _. None };
 
-    ghost faults = { λ faults. faults };
-
-    ghost failed_reads = { λ _ _. 0 };
-
-    ghost failed_writes = { λ _ _. 0 };
+    ghost counts = { λ faults. faults_alone faults };
 
     fn read_at(&mut self, name: &str, at: u64, into: &mut [u8]) -> Result<usize, Refusal> {
         match read_from(&self.files, self.alloc, &mut self.reading, name, at, into) {
             Ok(count) => Ok(count),
             Err(error) => {
-                self.faults = self.faults.saturating_add(1);
+                self.faults = one_more(self.faults);
                 Err(refusal_of(&error))
             }
         }
@@ -73,7 +71,7 @@ impl<R: FileSystem> Files for StdFiles<R> {
         match fs::create(&self.files, name) {
             Ok(_) => Ok(()),
             Err(error) => {
-                self.faults = self.faults.saturating_add(1);
+                self.faults = one_more(self.faults);
                 Err(refusal_of(&error))
             }
         }
@@ -83,7 +81,7 @@ impl<R: FileSystem> Files for StdFiles<R> {
         match append_to(&self.files, name, piece) {
             Ok(count) => Ok(count),
             Err(error) => {
-                self.faults = self.faults.saturating_add(1);
+                self.faults = one_more(self.faults);
                 Err(refusal_of(&error))
             }
         }

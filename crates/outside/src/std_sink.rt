@@ -1,6 +1,7 @@
-// Standard output. What was written is not told, and that it gets there is trusted.
+// Standard output. What was written is not known, and that it gets there is trusted.
 ghost use Rattle.std.specs.Prelude.{◌≡◌, ◌≤◌, ◌<◌, None, length, IfOk};
 
+use crate::calls::one_more;
 use crate::std_files::refusal_of;
 use crate::{Refusal, Sink};
 use std::io;
@@ -32,7 +33,7 @@ impl<P: Print> StdSink<P> {
 }
 
 impl<P: Print> Sink for StdSink<P> {
-    ghost told = { λ _. None };
+    ghost known = { λ _. None };
 
     ghost faults = { λ faults. faults };
 
@@ -40,7 +41,7 @@ impl<P: Print> Sink for StdSink<P> {
         match write_some(&self.out, piece) {
             Ok(count) => Ok(count),
             Err(error) => {
-                self.faults = self.faults.saturating_add(1);
+                self.faults = one_more(self.faults);
                 Err(refusal_of(&error))
             }
         }

@@ -3,7 +3,9 @@ use crate::{
     StdSink, WriteError, read_whole, send,
 };
 use std::alloc::{AllocError, Global};
+use std::cell::RefCell;
 use std::fmt::Display;
+use std::io::ErrorKind;
 use std::test::Fail;
 use std::{env, fs, io, process};
 
@@ -91,16 +93,55 @@ fn sound_files_and_sink(rt: HostRuntime) -> Result<(), Fail> {
     Ok(())
 }
 
-// Writes and reads a real file in a folder, twice, and takes the folder for a file.
-fn try_real_files(rt: HostRuntime, alloc: Global, folder: &str) -> Result<(Vec<u8>, bool), Fail> {
+// Reads three bytes of a file from a place on.
+fn three_bytes<F: Files>(files: &mut F, name: &str, at: u64) -> Result<[u8; 3], Refusal> {
+    let mut bytes = [0; 3];
+    let count = files.read_at(name, at, &mut bytes)?;
+    if count < 3 {
+        return Err(Refusal::Failed);
+    }
+    Ok(bytes)
+}
+
+// Reads two files in turn, so that each is opened while the other one is.
+fn read_in_turn<F: Files>(
+    alloc: Global,
+    files: &mut F,
+    first: &str,
+    second: &str,
+) -> Result<Vec<u8>, Fail> {
+    files.create(second)?;
+    files.append(second, b"three four")?;
+    let mut bytes = Vec::new(alloc);
+    for (name, at) in [
+        (first, 0),
+        (second, 3),
+        (first, 3),
+        (second, 6),
+        (second, 0),
+    ] {
+        bytes.extend_from_slice(&three_bytes(files, name, at)?)?;
+    }
+    Ok(bytes)
+}
+
+// What real files in a folder answer: a file that is written twice and read, two files that are read in turn, and the
+// folder taken for a file.
+fn try_real_files(
+    rt: HostRuntime,
+    alloc: Global,
+    folder: &str,
+) -> Result<(Vec<u8>, Vec<u8>, bool), Fail> {
     let mut files = StdFiles::new(alloc, rt);
     let path = format!(in alloc; "{folder}/file")?;
+    let other = format!(in alloc; "{folder}/other")?;
     written_and_read(alloc, &mut files, path.as_str())?;
     let bytes = written_and_read(alloc, &mut files, path.as_str())?;
+    let in_turn = read_in_turn(alloc, &mut files, path.as_str(), other.as_str())?;
     let refused = files.create(folder) == Err(Refusal::Failed)
         && files.append(folder, b"x") == Err(Refusal::Failed)
         && files.read_at(folder, 0, &mut [0]) == Err(Refusal::Failed);
-    Ok((bytes, refused))
+    Ok((bytes, in_turn, refused))
 }
 
 #[test]
@@ -110,47 +151,80 @@ fn real_files(rt: HostRuntime) -> Result<(), Fail> {
     let number = process::id(rt.process());
     let folder = format!(in alloc; "{}/outside-{number}", place.display())?;
     fs::create_dir(&rt, &folder)?;
-    let (bytes, refused) = try_real_files(rt, alloc, folder.as_str())?;
-    fs::remove_dir_all(&rt, &folder)?;
+    let answers = try_real_files(rt, alloc, folder.as_str());
+    let removed = fs::remove_dir_all(&rt, &folder);
+    let (bytes, in_turn, refused) = answers?;
+    removed?;
     assert!(rt; bytes.as_slice() == b"one two".as_slice());
+    assert!(rt; in_turn.as_slice() == b"oneee  twfouthr".as_slice());
     assert!(rt; refused);
     Ok(())
 }
 
-// An output that takes so many bytes of each piece, or fails.
+// An output that takes this many bytes of each piece, or fails, and keeps what it took.
 #[derive(Drop)]
-struct Output(Option<usize>);
+struct Output {
+    takes: Option<usize>,
+    taken: RefCell<Vec<u8>>,
+}
 
-impl Print for Output {
-    fn print<D: Display + Drop>(&self, _value: D) -> io::Result<()> {
-        Ok(())
+impl Output {
+    fn new(alloc: Global, takes: Option<usize>) -> Output {
+        Output {
+            takes,
+            taken: RefCell::new(Vec::new(alloc)),
+        }
     }
 
-    fn println<D: Display + Drop>(&self, _value: D) -> io::Result<()> {
-        Ok(())
-    }
-
-    fn write_all(&self, _bytes: &[u8]) -> io::Result<()> {
-        Ok(())
-    }
-
-    fn write_some(&self, bytes: &[u8]) -> io::Result<usize> {
-        match self.0 {
-            Some(count) => Ok(count.min(bytes.len())),
-            None => Err(io::ErrorKind::BrokenPipe.into()),
+    fn has_taken(&self, bytes: &[u8]) -> bool {
+        match self.taken.try_borrow() {
+            Ok(taken) => taken.as_slice() == bytes,
+            Err(_) => false,
         }
     }
 }
 
+impl Print for Output {
+    fn print<D: Display + Drop>(&self, _value: D) -> io::Result<()> {
+        Err(ErrorKind::Unsupported.into())
+    }
+
+    fn println<D: Display + Drop>(&self, _value: D) -> io::Result<()> {
+        Err(ErrorKind::Unsupported.into())
+    }
+
+    fn write_all(&self, _bytes: &[u8]) -> io::Result<()> {
+        Err(ErrorKind::Unsupported.into())
+    }
+
+    fn write_some(&self, bytes: &[u8]) -> io::Result<usize> {
+        let Some(takes) = self.takes else {
+            return Err(ErrorKind::BrokenPipe.into());
+        };
+        let Ok(mut taken) = self.taken.try_borrow_mut() else {
+            return Err(ErrorKind::ResourceBusy.into());
+        };
+        let count = takes.min(bytes.len());
+        taken.extend_from_slice(&bytes[..count])?;
+        Ok(count)
+    }
+}
+
+// Whatever a system takes of each piece, it is given every byte once, or the sink answers a fault.
 #[test]
 fn standard_output(rt: HostRuntime) -> Result<(), Fail> {
-    send(&mut StdSink::new(rt), b"written\n")?;
-    for (takes, want) in [
-        (Some(2), Ok(())),
-        (Some(0), Err(WriteError::WriteFault)),
-        (None, Err(WriteError::WriteFault)),
+    let alloc = rt.alloc();
+    for (takes, want, taken) in [
+        (Some(2), Ok(()), b"written".as_slice()),
+        (Some(3), Ok(()), b"written".as_slice()),
+        (Some(9), Ok(()), b"written".as_slice()),
+        (Some(0), Err(WriteError::WriteFault), b"".as_slice()),
+        (None, Err(WriteError::WriteFault), b"".as_slice()),
     ] {
-        assert!(rt; send(&mut StdSink::new(Output(takes)), b"written") == want);
+        let output = Output::new(alloc, takes);
+        assert!(rt; send(&mut StdSink::new(&output), b"written") == want);
+        assert!(rt; output.has_taken(taken));
     }
+    send(&mut StdSink::new(rt), b"written\n")?;
     Ok(())
 }

@@ -1,13 +1,16 @@
 // Whole texts in and out.
 ghost use Rattle.std.specs.Prelude.{◌≡◌, ◌≤◌, ◌<◌, ◌+◌, vec_len, length, IfOk, IfSome, OnOk, OnErr, OnSome, IsErrOf, take};
-ghost use Rattle.outside.specs.Counts.{Rose, NoneFalls};
-ghost use Rattle.outside.specs.Told.{WhereTold};
-ghost use Rattle.outside.specs.Files.{text_of};
+ghost use Rattle.outside.specs.Counts.{NoneFalls, Rose};
+ghost use Rattle.outside.specs.Known.{WhereKnown};
+ghost use Rattle.outside.specs.Files.{bytes_in};
 ghost use Rattle.outside.specs.Sink.{Adds, AddsSome};
 
 use crate::{Files, Refusal, Sink};
 use std::alloc::{AllocError, Global};
 use thiserror::Error;
+
+/// The most bytes that an input file may have, whatever its format.
+pub const LONGEST_TEXT: u64 = 1 << 28;
 
 // As many bytes are read at once as were read so far, within these two.
 const SMALLEST_PIECE: usize = 1 << 16;
@@ -41,7 +44,7 @@ pub enum WriteError {
 
 impl From<Refusal> for ReadError {
     ghost use Rattle.std.specs.Prelude.{◌≡◌};
-    ghost use Rattle.outside.specs.Refused.{read_error_of};
+    ghost use Rattle.outside.specs.Whole.{read_error_of};
 
     ghost from_gives = { λ refusal e. e ≡ read_error_of refusal };
 
@@ -66,7 +69,7 @@ impl From<AllocError> for ReadError {
 
 impl From<Refusal> for WriteError {
     ghost use Rattle.std.specs.Prelude.{◌≡◌};
-    ghost use Rattle.outside.specs.Refused.{write_error_of};
+    ghost use Rattle.outside.specs.Whole.{write_error_of};
 
     ghost from_gives = { λ refusal e. e ≡ write_error_of refusal };
 
@@ -88,19 +91,22 @@ pub fn read_whole<F: Files>(
     name: &str,
     limit: u64,
 ) -> Result<Vec<u8>, ReadError>
-    ensures text { IfOk result (λ bytes. IfSome (F.told files.old) (λ held. bytes.items ≡ text_of held name.now)) }
+    ensures bytes { IfOk result
+        (λ bytes. IfSome (F.known files.old) (λ held. bytes.items ≡ bytes_in held name.now)) }
     ensures within { IfOk result (λ bytes. vec_len bytes ≤ limit) }
-    ensures too_long { IsErrOf result ReadError.TooLong →
-        IfSome (F.told files.old) (λ held. limit < length (text_of held name.now)) }
-    ensures fault { IsErrOf result ReadError.ReadFault → Rose (F.faults files.old) (F.faults files.new) }
-    ensures fault_of_name { IsErrOf result ReadError.ReadFault →
-        OnSome (F.told files.old) (Rose (F.failed_reads files.old name.now) (F.failed_reads files.new name.now)) }
+    ensures too_long { IsErrOf result ReadError.TooLong
+        → IfSome (F.known files.old) (λ held. limit < length (bytes_in held name.now)) }
+    ensures fault { IsErrOf result ReadError.ReadFault
+        → Rose (F.counts files.old).faults (F.counts files.new).faults }
+    ensures fault_of_name { IsErrOf result ReadError.ReadFault
+        → OnSome (F.known files.old)
+        (Rose ((F.counts files.old).reads name.now) ((F.counts files.new).reads name.now)) }
 
-    // No file changes, and no count falls.
-    ensures kept { F.told files.new ≡ F.told files.old }
-    ensures faults { F.faults files.old ≤ F.faults files.new }
-    ensures failed_reads { NoneFalls (F.failed_reads files.old) (F.failed_reads files.new) }
-    ensures failed_writes { NoneFalls (F.failed_writes files.old) (F.failed_writes files.new) }
+    // No file changes. No count falls, and none changes where the file was read or is too long.
+    ensures kept { F.known files.new ≡ F.known files.old }
+    ensures none_falls { NoneFalls (F.counts files.old) (F.counts files.new) }
+    ensures calm { OnOk result (F.counts files.new ≡ F.counts files.old) }
+    ensures calm_too_long { IsErrOf result ReadError.TooLong → F.counts files.new ≡ F.counts files.old }
 {
     let mut bytes = Vec::new(alloc);
     let mut filled = 0;
@@ -138,10 +144,11 @@ fn make_room(bytes: &mut Vec<u8>, filled: usize, limit: u64) -> Result<(), Alloc
 ///
 /// `WriteFault` where a write failed. After a refusal the first bytes, perhaps none, were written.
 pub fn send<O: Sink>(out: &mut O, bytes: &[u8]) -> Result<(), WriteError>
-    ensures sent { OnOk result (WhereTold (Adds bytes.now) (O.told out.old) (O.told out.new)) }
-    ensures part { OnErr result (WhereTold (AddsSome bytes.now) (O.told out.old) (O.told out.new)) }
+    ensures sent { OnOk result (WhereKnown (Adds bytes.now) (O.known out.old) (O.known out.new)) }
+    ensures part { OnErr result (WhereKnown (AddsSome bytes.now) (O.known out.old) (O.known out.new)) }
+    ensures calm { OnOk result (O.faults out.new ≡ O.faults out.old) }
+    ensures none_falls { O.faults out.old ≤ O.faults out.new }
     ensures fault { IsErrOf result WriteError.WriteFault → Rose (O.faults out.old) (O.faults out.new) }
-    ensures faults { O.faults out.old ≤ O.faults out.new }
 {
     let mut sent = 0;
     while sent < bytes.len() {

@@ -1,4 +1,4 @@
-use Rattle.outside.specs.Entries.{OthersBelow}
+use Rattle.outside.specs.inside.Entries.{OthersBelow}
 use Rattle.outside.proofs.entries.place_of.Given as goal
 
 abbrev pub invariant-loop-place : goal.invariant-loop-place

@@ -13,9 +13,7 @@ loop-filled-preserved g c =
     let ends : filled + c.in_ok-count.count ≤ c.make_room.new.bytes.len = omega (arith, c.in_ok-count.ensures.within, c.deref_mut.ensures.len) in record {
       filled = ends;
       within = c.in_ok-make_room.ensures.within;
-      read = more_read (g.F.Files.told c.args.files.now) (g.F.Files.told c.loop-filled.files) c.args.name.now c.loop-filled.bytes.items room into _ _ filled c.in_ok-count.count c.make_room.new.bytes.len c.loop-filled.invariant.kept c.loop-filled.invariant.read kept fits within ends c.in_ok-count.ensures.read;
+      read = more_read (g.F.Files.known c.args.files.now) (g.F.Files.known c.loop-filled.files) c.args.name.now c.loop-filled.bytes.items room into _ _ filled c.in_ok-count.count c.make_room.new.bytes.len c.loop-filled.invariant.kept c.loop-filled.invariant.read kept fits within ends c.in_ok-count.ensures.read;
       kept = c.read_at.ensures.kept ∙ c.loop-filled.invariant.kept;
-      faults = omega (arith, c.read_at.ensures.faults);
-      failed_reads = λ name. omega (arith, c.loop-filled.invariant.failed_reads name, c.read_at.ensures.failed_reads name);
-      failed_writes = λ name. omega (arith, c.loop-filled.invariant.failed_writes name, c.read_at.ensures.failed_writes name);
+      calm = c.in_ok-count.ensures.calm ∙ c.loop-filled.invariant.calm;
     }

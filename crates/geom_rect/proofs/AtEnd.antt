@@ -4,7 +4,7 @@ use Rattle.std.proofs.lemmas.List.{get_or_append_left, get_or_push, length_push,
 use Rattle.std.proofs.lemmas.List.Elements.{Contains-push, Contains-push_cases, Contains-append_left}
 use Rattle.std.proofs.lemmas.List.Quantifiers.{all_pairs_push}
 use Rattle.geom_rect.specs.declared.run.Run.{Run}
-use Rattle.geom_rect.specs.Runs.{HasCell, IsHeld}
+use Rattle.geom_rect.specs.Run.{HasCell, IsHeld}
 
 -- what holds of each element holds of those in front, and of the last
 pub All-front : {X : Type 0} (P : X → Type 0) (xs : List X) (y : X) → All P (xs ++ y ∷ []) → All P xs

@@ -7,8 +7,8 @@ use Rattle.std.proofs.lemmas.Int.{ints, clamps, by_lt_z}
 use Rattle.std.proofs.lemmas.List.{get_or_default}
 use Rattle.std.proofs.lemmas.List.Elements.{All-contains}
 use Rattle.geom_rect.specs.declared.run.Run.{Run}
-use Rattle.geom_rect.specs.Runs.{IsHeld, IsOpen}
-use Rattle.geom_rect.specs.Sweep.{HaveCells, AreRising, EndBy, Appends, IsSettled}
+use Rattle.geom_rect.specs.Run.{IsHeld, IsOpen}
+use Rattle.geom_rect.specs.inside.Sweep.{HaveCells, AreRising, EndBy, AddsCells, IsSettled}
 
 -- no run of the list has a cell from `at` on
 pub not_held_from : (runs : List Run) (at t : ℤ) → EndBy at runs → IsHeld runs t → t <ℤ at
@@ -19,19 +19,19 @@ not_held_from runs at t ends held =
 
 -- a run that has a cell from `at` on is none of the first n, which end there
 place_of : (runs : List Run) (n : ℕ) (at t : ℤ) → AllWithin (λ (run : Run). run.to ≤ℤ at) runs 0 n → at ≤ℤ t → (held : IsHeld runs t) → n ≤ held.1.0
-place_of runs n at t behind from held = by_place (cases_lt held.1.0 n)
+place_of runs n at t ended from held = by_place (cases_lt held.1.0 n)
   where
     by_place : (held.1.0 < n) ⊎ (n ≤ held.1.0) → n ≤ held.1.0
     by_place (inl early) =
-        let end : held.0.to ≤ℤ at = subst (λ (run : Run). run.to ≤ℤ at) held.1.2 (behind held.1.0 held.0 (omega arith) early) in
+        let end : held.0.to ≤ℤ at = subst (λ (run : Run). run.to ≤ℤ at) held.1.2 (ended held.1.0 held.0 (omega arith) early) in
         let high = held.2.1 in
         absurd (omega (arith, ints))
     by_place (inr late) = late
 
 -- where the runs rise, the n-th one begins no later than a run that has a cell from `at` on
 begins_by : (runs : List Run) (n : ℕ) (d : Run) (at t : ℤ) → AreRising runs → AllWithin (λ (run : Run). run.to ≤ℤ at) runs 0 n → at ≤ℤ t → (held : IsHeld runs t) → (get_or runs n d).from ≤ℤ held.0.from
-begins_by runs n d at t rising behind from held =
-    subst (λ (run : Run). (get_or runs n d).from ≤ℤ run.from) (is d) (by_place (cases_lt n held.1.0) (place_of runs n at t behind from held))
+begins_by runs n d at t rising ended from held =
+    subst (λ (run : Run). (get_or runs n d).from ≤ℤ run.from) (is d) (by_place (cases_lt n held.1.0) (place_of runs n at t ended from held))
   where
     is : (e : Run) → get_or runs held.1.0 e ≡ held.0
     is e = get_or_default runs held.1.0 e held.0 held.1.1 ∙ held.1.2
@@ -65,14 +65,14 @@ abbrev EndsBy : ℤ → Run → Type 0
 EndsBy at run = run.to ≤ℤ at
 
 ends_later : (runs : List Run) (n : ℕ) (at next : ℤ) → at ≤ℤ next → AllWithin (EndsBy at) runs 0 n → AllWithin (EndsBy next) runs 0 n
-ends_later runs n at next later behind k d low high = let end : (get_or runs k d).to ≤ℤ at = behind k d low high in omega (arith, ints)
+ends_later runs n at next later ended k d low high = let end : (get_or runs k d).to ≤ℤ at = ended k d low high in omega (arith, ints)
 
 -- one more run that ends there
 ends_more : (runs : List Run) (n : ℕ) (at next : ℤ) → at ≤ℤ next → AllWithin (EndsBy at) runs 0 n → ((d : Run) → (get_or runs n d).to ≤ℤ next) → AllWithin (EndsBy next) runs 0 (n + 1)
-ends_more runs n at next later behind here k d low high = by_place (cases_lt k n)
+ends_more runs n at next later ended here k d low high = by_place (cases_lt k n)
   where
     by_place : (k < n) ⊎ (n ≤ k) → (get_or runs k d).to ≤ℤ next
-    by_place (inl early) = ends_later runs n at next later behind k d low early
+    by_place (inl early) = ends_later runs n at next later ended k d low early
     by_place (inr late) = let place : n ≡ k = omega arith in subst (λ i. (get_or runs i d).to ≤ℤ next) place (here d)
 
 -- two lists of runs that have a cell and rise, and how far the sweep has come in them
@@ -95,7 +95,7 @@ open_between covered blocked answer at from end i j run is_at is is_from within 
 
     by_place : (held : IsHeld blocked t) → (held.1.0 < j) ⊎ (j ≤ held.1.0) → ⊥
     by_place held (inl early) =
-        let end_of : held.0.to ≤ℤ at = subst (EndsBy at) held.1.2 (is_at.settled.blocked_behind held.1.0 held.0 (omega arith) early) in
+        let end_of : held.0.to ≤ℤ at = subst (EndsBy at) held.1.2 (is_at.settled.blocked_ended held.1.0 held.0 (omega arith) early) in
         let has = held.2.1 in omega (arith, ints, clamps)
     by_place held (inr late) =
         let begins : end ≤ℤ held.0.from = subst (λ (block : Run). end ≤ℤ block.from) held.1.2 (later held.1.0 held.0 late held.1.1) in
@@ -109,7 +109,7 @@ open_from : (covered blocked answer : List Run) (at from : ℤ) (i j : ℕ) (run
     → (t : ℤ) → at ≤ℤ t → IsOpen covered blocked t → from ≤ℤ t
 open_from covered blocked answer at from i j run is_at is is_from t late is_open =
     let held = is_open.0 in
-    let begins : (get_or covered i run).from ≤ℤ held.0.from = begins_by covered i run at t is_at.covered_rises is_at.settled.covered_behind late held in
+    let begins : (get_or covered i run).from ≤ℤ held.0.from = begins_by covered i run at t is_at.covered_rises is_at.settled.covered_ended late held in
     let same : run.from ≡ (get_or covered i run).from = ap (λ (r : Run). r.from) is in
     let low = held.2.0 in
     omega (arith, ints, clamps)
@@ -117,15 +117,15 @@ open_from covered blocked answer at from i j run is_at is is_from t late is_open
 -- a blocked run that begins before the end of the covered one
 pub settled_block : (covered blocked answer more : List Run) (at from next : ℤ) (i j : ℕ) (run block : Run) → IsAt covered blocked at i j answer → j < length blocked
     → run ≡ get_or covered i run → block ≡ get_or blocked j block → block.from <ℤ run.to → from ≡ int_max at run.from → next ≡ int_max from block.to
-    → Appends answer from block.from more → IsSettled covered blocked next i (j + 1) more
+    → AddsCells answer from block.from more → IsSettled covered blocked next i (j + 1) more
 settled_block covered blocked answer more at from next i j run block is_at in_blocked is_run is_block early is_from is_next appends = record {
   known = known_more covered blocked answer more at from block.from next is_at.settled.known is_at.settled.ends appends.held
       (open_between covered blocked answer at from block.from i j run is_at is_run is_from (omega (arith, ints)) later)
       (λ t low high is_open. (from_there t low is_open, to_there t low high is_open));
   separate = appends.separate;
   ends = appends.ends next (omega (arith, ints, clamps)) block_ends;
-  covered_behind = ends_later covered i at next (omega (arith, ints, clamps)) is_at.settled.covered_behind;
-  blocked_behind = ends_more blocked j at next (omega (arith, ints, clamps)) is_at.settled.blocked_behind here;
+  covered_ended = ends_later covered i at next (omega (arith, ints, clamps)) is_at.settled.covered_ended;
+  blocked_ended = ends_more blocked j at next (omega (arith, ints, clamps)) is_at.settled.blocked_ended here;
 }
   where
     at_block : (d : Run) → get_or blocked j d ≡ block
@@ -135,7 +135,7 @@ settled_block covered blocked answer more at from next i j run block is_at in_bl
     later k d low high = by_place (cases_lt j k)
       where
         by_place : (j < k) ⊎ (k ≤ j) → block.from ≤ℤ (get_or blocked k d).from
-        by_place (inl behind) = subst (λ (b : Run). b.from ≤ℤ (get_or blocked k d).from) (at_block d) (is_at.blocked_rises j k d behind high)
+        by_place (inl after) = subst (λ (b : Run). b.from ≤ℤ (get_or blocked k d).from) (at_block d) (is_at.blocked_rises j k d after high)
         by_place (inr same) =
             let place : j ≡ k = omega arith in
             let equal : (get_or blocked k d).from ≡ block.from = ap (λ n. (get_or blocked n d).from) (sym place) ∙ ap (λ (b : Run). b.from) (at_block d) in
@@ -161,24 +161,24 @@ settled_block covered blocked answer more at from next i j run block is_at in_bl
 -- no blocked run that is left begins before the end of the covered one
 pub settled_run : (covered blocked answer more : List Run) (at from next : ℤ) (i j : ℕ) (run : Run) → IsAt covered blocked at i j answer
     → run ≡ get_or covered i run → ((d : Run) → j < length blocked → run.to ≤ℤ (get_or blocked j d).from) → from ≡ int_max at run.from → next ≡ int_max from run.to
-    → Appends answer from run.to more → IsSettled covered blocked next (i + 1) j more
+    → AddsCells answer from run.to more → IsSettled covered blocked next (i + 1) j more
 settled_run covered blocked answer more at from next i j run is_at is_run late is_from is_next appends = record {
   known = known_more covered blocked answer more at from run.to next is_at.settled.known is_at.settled.ends appends.held
       (open_between covered blocked answer at from run.to i j run is_at is_run is_from (omega (arith, ints)) later)
       (λ t low high is_open. (from_there t low is_open, to_there t low high is_open));
   separate = appends.separate;
   ends = appends.ends next (omega (arith, ints, clamps)) (omega (arith, ints, clamps));
-  covered_behind = ends_more covered i at next (omega (arith, ints, clamps)) is_at.settled.covered_behind here;
-  blocked_behind = ends_later blocked j at next (omega (arith, ints, clamps)) is_at.settled.blocked_behind;
+  covered_ended = ends_more covered i at next (omega (arith, ints, clamps)) is_at.settled.covered_ended here;
+  blocked_ended = ends_later blocked j at next (omega (arith, ints, clamps)) is_at.settled.blocked_ended;
 }
   where
     later : (k : ℕ) (d : Run) → j ≤ k → k < length blocked → run.to ≤ℤ (get_or blocked k d).from
     later k d low high = by_place (cases_lt j k)
       where
         by_place : (j < k) ⊎ (k ≤ j) → run.to ≤ℤ (get_or blocked k d).from
-        by_place (inl behind) =
+        by_place (inl after) =
             let first : run.to ≤ℤ (get_or blocked j d).from = late d (omega arith) in
-            let rises : (get_or blocked j d).from ≤ℤ (get_or blocked k d).from = is_at.blocked_rises j k d behind high in
+            let rises : (get_or blocked j d).from ≤ℤ (get_or blocked k d).from = is_at.blocked_rises j k d after high in
             omega (arith, ints)
         by_place (inr same) =
             let place : j ≡ k = omega arith in subst (λ n. run.to ≤ℤ (get_or blocked n d).from) place (late d (omega arith))
@@ -200,8 +200,8 @@ settled_start covered blocked first rising some is_first = record {
   known = λ t below. (λ held. absurd (omega (arith, held.1.1)), λ is_open. not_open t below is_open.0);
   separate = record { some = λ k d below. absurd (omega arith); apart = λ i j d less below. absurd (omega arith) };
   ends = λ k d below. absurd (omega arith);
-  covered_behind = λ k d low high. absurd (omega arith);
-  blocked_behind = λ k d low high. absurd (omega arith);
+  covered_ended = λ k d low high. absurd (omega arith);
+  blocked_ended = λ k d low high. absurd (omega arith);
 }
   where
     not_open : (t : ℤ) → t <ℤ first.from → IsHeld covered t → IsHeld [] t
@@ -226,5 +226,5 @@ pub known_everywhere : (covered blocked answer : List Run) (at : ℤ) (i j : ℕ
 known_everywhere covered blocked answer at i j settled all t = (
   λ held. (settled.known t (not_held_from answer at t settled.ends held)).0 held,
   λ is_open. by_lt_z t at (λ early. (settled.known t early).1 is_open)
-      (λ late. let place : i ≤ is_open.0.1.0 = place_of covered i at t settled.covered_behind late is_open.0 in absurd (omega (arith, is_open.0.1.1))),
+      (λ late. let place : i ≤ is_open.0.1.0 = place_of covered i at t settled.covered_ended late is_open.0 in absurd (omega (arith, is_open.0.1.1))),
 )

@@ -5,8 +5,8 @@ use Rattle.std.proofs.lemmas.Int.{ints}
 use Rattle.std.proofs.lemmas.List.{get_or_default}
 use Rattle.std.proofs.lemmas.List.Elements.{Contains-get_or}
 use Rattle.geom_rect.specs.declared.run.Run.{Run}
-use Rattle.geom_rect.specs.Runs.{HasCell, IsHeld, IsOpen, AreMaximalRuns}
-use Rattle.geom_rect.specs.Sweep.{AreSeparate}
+use Rattle.geom_rect.specs.Run.{HasCell, IsHeld, IsOpen, AreMaximalRuns}
+use Rattle.geom_rect.specs.inside.Sweep.{AreSeparate}
 
 -- a cell beside a run is held by none
 beside_is_free : (runs : List Run) (k : ℕ) (d : Run) (t : ℤ) → AreSeparate runs → k < length runs
@@ -23,7 +23,7 @@ beside_is_free runs k d t separate within low high not_in held = by_place (cases
     by_place (inr _) (inl later) =
         let apart : (get_or runs k d).to <ℤ held.0.from = subst (λ (r : Run). (get_or runs k d).to <ℤ r.from) other (separate.apart k held.1.0 d later held.1.1) in
         let has = held.2.0 in absurd (omega (arith, ints))
-    by_place (inr not_before) (inr not_behind) =
+    by_place (inr not_before) (inr not_after) =
         let place : held.1.0 ≡ k = omega arith in
         not_in (subst (λ (r : Run). HasCell r t) (sym other ∙ ap (λ n. get_or runs n d) place) held.2)
 
@@ -36,7 +36,7 @@ AreMaximalRuns-separate P runs separate exact = record {
         some = some;
         each = λ t has. (exact t).0 (run, Contains-get_or runs k d within, has);
         before = λ p. beside_is_free runs k d (run.from -ℤ pos 1) separate within (omega (arith, ints)) (omega (arith, ints)) (λ has. let low = has.0 in absurd (omega (arith, ints))) ((exact (run.from -ℤ pos 1)).1 p);
-        behind = λ p. beside_is_free runs k d run.to separate within (omega (arith, ints)) (omega (arith, ints)) (λ has. let high = has.1 in absurd (omega (arith, ints))) ((exact run.to).1 p);
+        after = λ p. beside_is_free runs k d run.to separate within (omega (arith, ints)) (omega (arith, ints)) (λ has. let high = has.1 in absurd (omega (arith, ints))) ((exact run.to).1 p);
       };
   every = λ t p. (exact t).1 p;
   rising = λ i j d less within.
@@ -54,7 +54,7 @@ AreMaximalRuns-same P Q same runs are = record {
         some = is.some;
         each = λ t has. (same t).0 (is.each t has);
         before = λ q. is.before ((same ((get_or runs k d).from -ℤ pos 1)).1 q);
-        behind = λ q. is.behind ((same (get_or runs k d).to).1 q);
+        after = λ q. is.after ((same (get_or runs k d).to).1 q);
       };
   every = λ t q. are.every t ((same t).1 q);
   rising = are.rising;

@@ -8,8 +8,8 @@ use Rattle.std.proofs.lemmas.List.Sorted.{IsPermutation-filter_both, IsPermutati
 use Rattle.std.specs.List.Sorted.{IsPermutation, IsSortedByKey}
 use Rattle.std.specs.Ordering.{int_cmp}
 use Rattle.geom_rect.specs.declared.run.Run.{Run}
-use Rattle.geom_rect.specs.Runs.{HasCell}
-use Rattle.geom_rect.specs.Sweep.{Rises, AreRising}
+use Rattle.geom_rect.specs.Run.{HasCell}
+use Rattle.geom_rect.specs.inside.Sweep.{Rises, AreRising}
 
 abbrev has_some : Run → Bool
 has_some run = int_lt run.from run.to

@@ -3,9 +3,9 @@ use Rattle.std.proofs.Common.{◌≡◌, zero, suc, ◌⊎◌, inl, inr, ℤ, po
 use Rattle.std.proofs.lemmas.Int.{ints, by_lt_z}
 use Rattle.std.proofs.lemmas.List.Elements.{All-contains}
 use Rattle.geom_rect.specs.declared.run.Run.{Run}
-use Rattle.geom_rect.specs.Runs.{HasCell, IsMaximal, AreMaximalRuns}
+use Rattle.geom_rect.specs.Run.{HasCell, IsMaximal, AreMaximalRuns}
 
--- the first element of a list, or one behind it
+-- the first element of a list, or one after it
 Contains-cases : (x : Run) (xs : List Run) (y : Run) → Contains (x ∷ xs) y → (x ≡ y) ⊎ Contains xs y
 Contains-cases x xs y (zero, within, is) = inl is
 Contains-cases x xs y (suc k, within, is) = inr (k, omega arith, is)
@@ -13,8 +13,8 @@ Contains-cases x xs y (suc k, within, is) = inr (k, omega arith, is)
 Contains-first : (x : Run) (xs : List Run) → Contains (x ∷ xs) x
 Contains-first x xs = (0, omega arith, refl)
 
-Contains-behind : (x : Run) (xs : List Run) (y : Run) → Contains xs y → Contains (x ∷ xs) y
-Contains-behind x xs y among = (suc among.0, omega (arith, among.1), among.2)
+Contains-after : (x : Run) (xs : List Run) (y : Run) → Contains xs y → Contains (x ∷ xs) y
+Contains-after x xs y among = (suc among.0, omega (arith, among.1), among.2)
 
 abbrev BeginsBefore : Run → Run → Type 0
 BeginsBefore a b = a.from <ℤ b.from
@@ -33,24 +33,24 @@ same_rising (x ∷ xs) [] x_rises y_rises there back = absurd (omega (arith, (th
 same_rising (x ∷ xs) (y ∷ ys) x_rises y_rises there back =
     let same_first : x ≡ y = same (Contains-cases y ys x (there x (Contains-first x xs))) (Contains-cases x xs y (back y (Contains-first y ys))) in
     let same_others : xs ≡ ys = same_rising xs ys (others_rise x xs x_rises) (others_rise y ys y_rises)
-    (λ r among. behind x xs y ys r x_rises same_first among (Contains-cases y ys r (there r (Contains-behind x xs r among))))
-    (λ r among. behind y ys x xs r y_rises (sym same_first) among (Contains-cases x xs r (back r (Contains-behind y ys r among)))) in
+    (λ r among. after x xs y ys r x_rises same_first among (Contains-cases y ys r (there r (Contains-after x xs r among))))
+    (λ r among. after y ys x xs r y_rises (sym same_first) among (Contains-cases x xs r (back r (Contains-after y ys r among)))) in
     ap (λ (r : Run). r ∷ xs) same_first ∙ ap (λ rs. y ∷ rs) same_others
   where
     same : (y ≡ x) ⊎ Contains ys x → (x ≡ y) ⊎ Contains xs y → x ≡ y
     same (inl equal) _ = sym equal
     same (inr _) (inl equal) = equal
-    same (inr x_behind) (inr y_behind) =
-        let later : y.from <ℤ x.from = All-contains (BeginsBefore y) ys x (first_before y ys y_rises) x_behind in
-        let earlier : x.from <ℤ y.from = All-contains (BeginsBefore x) xs y (first_before x xs x_rises) y_behind in
+    same (inr x_after) (inr y_after) =
+        let later : y.from <ℤ x.from = All-contains (BeginsBefore y) ys x (first_before y ys y_rises) x_after in
+        let earlier : x.from <ℤ y.from = All-contains (BeginsBefore x) xs y (first_before x xs x_rises) y_after in
         absurd (omega (arith, ints))
 
-    behind : (a : Run) (others : List Run) (b : Run) (rest : List Run) (r : Run) → AllPairs BeginsBefore (a ∷ others) → a ≡ b → Contains others r → (b ≡ r) ⊎ Contains rest r → Contains rest r
-    behind a others b rest r rises equal among (inl is_first) =
+    after : (a : Run) (others : List Run) (b : Run) (rest : List Run) (r : Run) → AllPairs BeginsBefore (a ∷ others) → a ≡ b → Contains others r → (b ≡ r) ⊎ Contains rest r → Contains rest r
+    after a others b rest r rises equal among (inl is_first) =
         let later : a.from <ℤ r.from = All-contains (BeginsBefore a) others r (first_before a others rises) among in
         let at : a.from ≡ r.from = ap (λ (run : Run). run.from) (equal ∙ is_first) in
         absurd (omega (arith, ints))
-    behind a others b rest r rises equal among (inr found) = found
+    after a others b rest r rises equal among (inr found) = found
 
 -- two maximal runs that begin with one and the same cell in common are the same
 same_run : (P : ℤ → Type 0) (a b : Run) → IsMaximal P a → IsMaximal P b → HasCell b a.from → a ≡ b
@@ -62,8 +62,8 @@ same_run P a b a_is b_is has =
     let from : a.from ≡ b.from =
     by_lt_z b.from a.from (λ before. absurd (a_is.before (b_is.each (a.from -ℤ pos 1) (omega (arith, ints), omega (arith, ints))))) (λ not_before. omega (arith, ints)) in
     let to : a.to ≡ b.to =
-    by_lt_z a.to b.to (λ shorter. absurd (a_is.behind (b_is.each a.to (omega (arith, ints), shorter))))
-    (λ not_shorter. by_lt_z b.to a.to (λ longer. absurd (b_is.behind (a_is.each b.to (omega (arith, ints), longer)))) (λ not_longer. omega (arith, ints))) in
+    by_lt_z a.to b.to (λ shorter. absurd (a_is.after (b_is.each a.to (omega (arith, ints), shorter))))
+    (λ not_shorter. by_lt_z b.to a.to (λ longer. absurd (b_is.after (a_is.each b.to (omega (arith, ints), longer)))) (λ not_longer. omega (arith, ints))) in
     λ i. record { from = from i; to = to i }
 
 -- each maximal run is in the list

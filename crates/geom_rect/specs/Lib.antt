@@ -1,3 +1,4 @@
+pub mod Drawn
 pub mod Rect
-pub mod Runs
-pub mod Sweep
+pub mod Run
+pub mod inside

@@ -1,5 +1,6 @@
 -- Rectangles with edges along the axes, by the points and the units of area in them.
-use Rattle.std.specs.Prelude.{ℤ, pos, neg_ℤ, ◌+ℤ◌, ◌-ℤ◌, ◌≤ℤ◌, ◌^◌}
+use Rattle.std.specs.Prelude.{ℤ, pos, neg_ℤ, ◌+ℤ◌, ◌-ℤ◌, ◌≤ℤ◌}
+use Rattle.geom_rect.specs.declared.rect.TheConstants.{GREATEST_COORDINATE}
 use Rattle.geom_rect.specs.declared.rect.Rect.{Rect}
 
 -- the rectangle has its left edge not right of its right one, and its lower edge not above its upper one
@@ -18,7 +19,8 @@ HasPoint a x y = IsBetween a.x1 a.x2 x × IsBetween a.y1 a.y2 y
 abbrev pub HasUnit : Rect → ℤ → ℤ → Type 0
 HasUnit a x y = HasPoint a x y × HasPoint a (x +ℤ pos 1) (y +ℤ pos 1)
 
--- there is a point in both. Edges are whole numbers, so two rectangles that share any point share one with whole coordinates.
+-- There is a point in both. Edges are whole numbers, so two rectangles that share any point share one with whole
+-- coordinates.
 abbrev pub SharePoint : Rect → Rect → Type 0
 SharePoint a b = (x : ℤ) × (y : ℤ) × (HasPoint a x y × HasPoint b x y)
 
@@ -30,10 +32,10 @@ ShareArea a b = (x : ℤ) × (y : ℤ) × (HasUnit a x y × HasUnit b x y)
 abbrev pub grown_by : Rect → ℤ → Rect
 grown_by a by = record { x1 = a.x1 -ℤ by; y1 = a.y1 -ℤ by; x2 = a.x2 +ℤ by; y2 = a.y2 +ℤ by }
 
--- a coordinate lies within 2 ^ 61 of 0
+-- a coordinate is at most the greatest one from 0
 abbrev pub IsCoordinate : ℤ → Type 0
-IsCoordinate z = (neg_ℤ (pos (2 ^ 61)) ≤ℤ z) × (z ≤ℤ pos (2 ^ 61))
+IsCoordinate z = IsBetween (neg_ℤ GREATEST_COORDINATE) GREATEST_COORDINATE z
 
--- each edge does
+-- each edge lies at a coordinate
 abbrev pub HasCoordinates : Rect → Type 0
 HasCoordinates a = IsCoordinate a.x1 × IsCoordinate a.y1 × IsCoordinate a.x2 × IsCoordinate a.y2

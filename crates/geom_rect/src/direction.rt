@@ -1,7 +1,9 @@
-/// One of the two axes.
-#[derive(Clone, Copy, Debug, PartialEq, Eq)]
+/// One of the two axes of a drawing.
+#[derive(Clone, Copy, Debug, PartialEq, Eq, PartialOrd, Ord)]
 pub enum Axis {
+    /// From left to right.
     X,
+    /// From low to high.
     Y,
 }
 

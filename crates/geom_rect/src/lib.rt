@@ -2,6 +2,7 @@
 #![tactic(auto)]
 
 mod direction;
+mod drawn;
 mod laws;
 mod rect;
 mod run;
@@ -10,7 +11,8 @@ mod sweep;
 mod tests;
 
 pub use direction::{Axis, Orient};
+pub use drawn::{Drawn, Shape};
 pub use laws::maximal_runs_are_unique;
-pub use rect::{Rect, grown, meets, overlaps};
+pub use rect::{GREATEST_COORDINATE, Rect, grown, meets, overlaps};
 pub use run::Run;
 pub use sweep::runs;

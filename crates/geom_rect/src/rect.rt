@@ -1,9 +1,14 @@
-ghost use Rattle.std.specs.Prelude.{◌≡◌, ◌+ℤ◌, ◌≤ℤ◌, ◌↔◌, ℤ, pos, IsTrue};
-ghost use Rattle.geom_rect.specs.Rect.{IsBetween, SharePoint, ShareArea, grown_by, HasCoordinates, IsInOrder};
+ghost use Rattle.std.specs.Prelude.{◌≡◌, ◌≤ℤ◌, ◌↔◌, pos, IsTrue};
+ghost use Rattle.geom_rect.specs.Rect.{SharePoint, ShareArea, grown_by, HasCoordinates, IsInOrder};
+ghost use Rattle.geom_rect.specs.inside.Rect.{ShareLength, ShareSquare};
+
+/// No coordinate of a drawing is farther from 0 than this many units.
+pub const GREATEST_COORDINATE: i64 = 2_305_843_009_213_693_952;
 
 /// A rectangle from (`x1`, `y1`) up to (`x2`, `y2`), with `x1` at most `x2` and `y1` at most `y2`.
-/// Coordinates are units of a drawing and lie within 2^61 of 0. One that is out of order has no point.
-#[derive(Clone, Copy, Debug, PartialEq, Eq)]
+/// Coordinates are units of a drawing, at most `GREATEST_COORDINATE` from 0. A rectangle that is out of order has no point.
+/// Rectangles are compared by `x1`, `y1`, `x2` and `y2`, in turn.
+#[derive(Clone, Copy, Debug, PartialEq, Eq, PartialOrd, Ord)]
 pub struct Rect {
     pub x1: i64,
     pub y1: i64,
@@ -15,14 +20,14 @@ pub struct Rect {
 pub fn meets(a: Rect, b: Rect) -> bool
     ensures { IsTrue result ↔ SharePoint a b }
 {
-    share_point(a.x1, a.x2, b.x1, b.x2) && share_point(a.y1, a.y2, b.y1, b.y2)
+    share_square(a, b, 0)
 }
 
 /// Whether the two rectangles share an area.
 pub fn overlaps(a: Rect, b: Rect) -> bool
     ensures { IsTrue result ↔ ShareArea a b }
 {
-    share_unit(a.x1, a.x2, b.x1, b.x2) && share_unit(a.y1, a.y2, b.y1, b.y2)
+    share_square(a, b, 1)
 }
 
 /// The rectangle with each edge `by` further out.
@@ -39,17 +44,23 @@ pub fn grown(a: Rect, by: i64) -> Rect
     }
 }
 
-// Whether two intervals of an axis share a point, ends included.
-fn share_point(a1: i64, a2: i64, b1: i64, b2: i64) -> bool
-    ensures { IsTrue result ↔ ((z : ℤ) × (IsBetween a1 a2 z × IsBetween b1 b2 z)) }
+// Whether the two rectangles share a square of this side; where it is 0, a point.
+fn share_square(a: Rect, b: Rect, side: i64) -> bool
+    requires { pos 0 ≤ℤ side }
+    ensures { IsTrue result ↔ ShareSquare a b side }
 {
-    a1.max(b1) <= a2.min(b2)
+    share_length(a.x1, a.x2, b.x1, b.x2, side) && share_length(a.y1, a.y2, b.y1, b.y2, side)
 }
 
-// Whether they share a unit of length.
-fn share_unit(a1: i64, a2: i64, b1: i64, b2: i64) -> bool
-    ensures { IsTrue result ↔ ((z : ℤ) × ((IsBetween a1 a2 z × IsBetween a1 a2 (z +ℤ pos 1))
-        × (IsBetween b1 b2 z × IsBetween b1 b2 (z +ℤ pos 1)))) }
+// Whether two intervals of an axis share one of this length, ends included.
+fn share_length(a1: i64, a2: i64, b1: i64, b2: i64, length: i64) -> bool
+    requires { pos 0 ≤ℤ length }
+    ensures { IsTrue result ↔ ShareLength a1 a2 b1 b2 length }
 {
-    a1.max(b1) < a2.min(b2)
+    let low = a1.max(b1);
+    let high = a2.min(b2);
+    match high.checked_sub(length) {
+        Some(last) => low <= last,
+        None => false,
+    }
 }

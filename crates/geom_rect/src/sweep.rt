@@ -2,8 +2,8 @@ ghost use Rattle.std.specs.Prelude.{◌≡◌, IfOk, OnOk, filter, int_lt};
 ghost use Rattle.std.specs.Ordering.{int_cmp};
 ghost use Rattle.std.specs.List.Sorted.{IsPermutation, IsSortedByKey};
 ghost use Rattle.geom_rect.specs.declared.run.Run.{Run};
-ghost use Rattle.geom_rect.specs.Runs.{IsOpen, AreMaximalRuns};
-ghost use Rattle.geom_rect.specs.Sweep.{Rises, HaveCells, AreRising, AreSeparate, EndBy, Appends};
+ghost use Rattle.geom_rect.specs.Run.{IsOpen, AreMaximalRuns};
+ghost use Rattle.geom_rect.specs.inside.Sweep.{Rises, HaveCells, AreRising, AreSeparate, EndBy, AddsCells};
 
 use crate::run::Run;
 use std::alloc::{AllocError, Global};
@@ -78,8 +78,8 @@ fn sweep(alloc: Global, covered: &[Run], blocked: &[Run]) -> Result<Vec<Run>, Al
 // The cells from `from` up to below `to` are added at the end, to the last run where they follow on it.
 fn append(runs: &mut Vec<Run>, from: i64, to: i64) -> Result<(), AllocError>
     requires separate { AreSeparate runs.old.items }
-    requires behind { EndBy from runs.old.items }
-    ensures { OnOk result (Appends runs.old.items from to runs.new.items) }
+    requires ended { EndBy from runs.old.items }
+    ensures { OnOk result (AddsCells runs.old.items from to runs.new.items) }
 {
     if from >= to {
         return Ok(());

@@ -9,7 +9,7 @@ fn rect(x1: i64, y1: i64, x2: i64, y2: i64) -> Rect {
 #[test]
 fn rectangles_that_meet_and_overlap(rt: HostRuntime) {
     let square = rect(0, 0, 10, 10);
-    // another rectangle, whether it shares a point with the square, and whether it shares an area
+    // Another rectangle, whether it shares a point with the square, and whether it shares an area.
     let cases = [
         ("inside", rect(2, 3, 4, 5), true, true),
         ("around", rect(-1, -1, 11, 11), true, true),
@@ -107,7 +107,8 @@ fn runs_and_joins(rt: HostRuntime) -> Result<(), Fail> {
     Ok(())
 }
 
-// Each covered run has ten cells, with ten between it and the next; they stand in falling order, and a blocked run takes one cell of each.
+// Each covered run has ten cells, with ten between it and the next. They stand in falling order, and a blocked run
+// takes one cell of each.
 #[test]
 fn a_million_runs(rt: HostRuntime) -> Result<(), Fail> {
     let mut covered = Vec::new(rt.alloc());

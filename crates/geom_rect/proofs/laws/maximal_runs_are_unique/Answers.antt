@@ -1,4 +1,4 @@
-use Rattle.geom_rect.specs.Runs.{IsOpen}
+use Rattle.geom_rect.specs.Run.{IsOpen}
 use Rattle.geom_rect.proofs.Unique.{maximal_runs_same}
 use Rattle.geom_rect.proofs.laws.maximal_runs_are_unique.Goals as goal
 

@@ -1,27 +1,7 @@
-use Rattle.std.proofs.Common.{rules, SFits, w64}
-use Rattle.std.proofs.lemmas.Int.{to_z-of_z}
-use Rattle.geom_rect.proofs.Shares.{SharePoint-decides, then_decides, else_decides}
+use Rattle.geom_rect.proofs.Shares.{SharePoint-square}
 use Rattle.geom_rect.proofs.rect.meets.Goals as goal
 
-pub returns-then-share_point : goal.returns-then-share_point
-returns-then-share_point c =
-    let ax1 : SFits w64 c.args.a.x1 = search rules in
-    let ax2 : SFits w64 c.args.a.x2 = search rules in
-    let bx1 : SFits w64 c.args.b.x1 = search rules in
-    let bx2 : SFits w64 c.args.b.x2 = search rules in
-    let ay1 : SFits w64 c.args.a.y1 = search rules in
-    let ay2 : SFits w64 c.args.a.y2 = search rules in
-    let by1 : SFits w64 c.args.b.y1 = search rules in
-    let by2 : SFits w64 c.args.b.y2 = search rules in
-    let in_x = simp to_z-of_z at c.share_point.ensures in
-    let in_y = simp to_z-of_z at c.share_point-then-share_point.ensures in
-    then_decides _ _ _ c.share_point-then-share_point.result (SharePoint-decides c.args.a c.args.b) (in_x.0 c.if-share_point.true) in_y
-
-pub returns-else-share_point : goal.returns-else-share_point
-returns-else-share_point c =
-    let ax1 : SFits w64 c.args.a.x1 = search rules in
-    let ax2 : SFits w64 c.args.a.x2 = search rules in
-    let bx1 : SFits w64 c.args.b.x1 = search rules in
-    let bx2 : SFits w64 c.args.b.x2 = search rules in
-    let in_x = simp to_z-of_z at c.share_point.ensures in
-    else_decides _ _ _ c.share_point.result (SharePoint-decides c.args.a c.args.b) in_x c.if-share_point.false
+pub returns : goal.returns
+returns c =
+    let square = SharePoint-square c.args.a c.args.b in
+    (λ t. square.0 (c.share_square.ensures.0 t), λ w. c.share_square.ensures.1 (square.1 w))

@@ -2,7 +2,7 @@ use Rattle.std.proofs.Common.{◌≡◌, ℕ, ◌-◌, ◌+◌, ◌<◌, ◌<ℤ
 use Rattle.std.proofs.lemmas.Int.{ints, to_z-of_z}
 use Rattle.std.proofs.lemmas.List.{get_or_default}
 use Rattle.geom_rect.specs.declared.run.Run.{Run}
-use Rattle.geom_rect.proofs.Appended.{Appends-push, Appends-join_at, all_apart}
+use Rattle.geom_rect.proofs.Appended.{AddsCells-push, AddsCells-join_at, all_apart}
 use Rattle.geom_rect.proofs.sweep.append.Goals as goal
 use Rattle.geom_rect.proofs.sweep.append.Goals.{else-n-gt0-via-then-n-gt0+else-index-from, else-n-gt0-via-else-n-gt0}
 
@@ -19,7 +19,7 @@ returns-then-index-from c =
     let touches : c.index.result.now.to ≡ c.args.from = omega (arith, ints) in
     let rises : c.args.from <ℤ c.args.to = omega (arith, ints) in
     let same : last ≡ c.index.result.now = c.index_mut.ensures.value ∙ get_or_default runs (n - 1) last c.index.result.now (omega arith) ∙ sym c.index.ensures in
-    simp to_z-of_z (Appends-join_at runs n last c.args.from c.args.to c.requires.separate c.requires.behind long some c.index_mut.ensures.value (ap (λ (run : Run). run.to) same ∙ touches) rises)
+    simp to_z-of_z (AddsCells-join_at runs n last c.args.from c.args.to c.requires.separate c.requires.ended long some c.index_mut.ensures.value (ap (λ (run : Run). run.to) same ∙ touches) rises)
 
 pub returns-in_ok-push : goal.returns-in_ok-push
 returns-in_ok-push c =
@@ -38,4 +38,4 @@ returns-in_ok-push c =
           w.if-index-from.false (ap (of_z w64) (ap (λ (run : Run). run.to) read ∙ touches))
       | else-n-gt0-via-else-n-gt0 w ↦ λ k d last touches. absurd (omega arith)
     ] in
-    rw c.in_ok-push.ensures.items (simp to_z-of_z (Appends-push runs c.args.from c.args.to c.requires.separate c.requires.behind (all_apart runs n c.args.from c.requires.separate c.requires.behind long apart) rises))
+    rw c.in_ok-push.ensures.items (simp to_z-of_z (AddsCells-push runs c.args.from c.args.to c.requires.separate c.requires.ended (all_apart runs n c.args.from c.requires.separate c.requires.ended long apart) rises))

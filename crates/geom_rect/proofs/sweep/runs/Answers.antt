@@ -1,6 +1,6 @@
 use Rattle.std.proofs.Common.{◌↔◌, ℤ, subst, sym}
 use Rattle.std.proofs.lemmas.Result.{IfOk-weaker}
-use Rattle.geom_rect.specs.Runs.{IsHeld, IsOpen, AreMaximalRuns}
+use Rattle.geom_rect.specs.Run.{IsHeld, IsOpen, AreMaximalRuns}
 use Rattle.geom_rect.proofs.Maximal.{AreMaximalRuns-same, IsOpen-same}
 use Rattle.geom_rect.proofs.sweep.runs.Goals as goal
 

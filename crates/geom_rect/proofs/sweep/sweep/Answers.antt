@@ -3,7 +3,7 @@ use Rattle.std.specs.Int.{int_max}
 use Rattle.std.proofs.lemmas.Int.{ints, clamps, to_z-of_z}
 use Rattle.std.proofs.lemmas.List.{get_or_default}
 use Rattle.geom_rect.specs.declared.run.Run.{Run}
-use Rattle.geom_rect.specs.Sweep.{IsSettled, Appends}
+use Rattle.geom_rect.specs.inside.Sweep.{IsSettled, AddsCells}
 use Rattle.geom_rect.proofs.Known.{IsAt, settled_start, settled_block, settled_run, known_everywhere}
 use Rattle.geom_rect.proofs.Maximal.{AreMaximalRuns-separate}
 use Rattle.geom_rect.proofs.sweep.sweep.Goals as goal
@@ -21,8 +21,8 @@ loop-i-init c =
     let is : first ≡ get_or c.args.covered.now 0 first = search rules in
     (rw (to_z-of_z w64 first.from fits, c.new-answer.ensures.items) (settled_start c.args.covered.now c.args.blocked.now first c.requires.covered_rises some is), omega arith, omega arith)
 
-pub append-requires-clause-behind : goal.append-requires-clause-behind
-append-requires-clause-behind c =
+pub append-requires-clause-ended : goal.append-requires-clause-ended
+append-requires-clause-ended c =
     let s = c.loop-i.invariant.0 in
     let at : SFits w64 c.loop-i.at = search rules in
     let run : SFits w64 (get_or c.args.covered.now c.loop-i.i nothing).from = search rules in
@@ -55,7 +55,7 @@ loop-i-preserved-then-blocked-j c =
     let is_from : c.max-from.result ≡ int_max c.loop-i.at run.from = omega (arith, ints, clamps, c.max-from.ensures.value) in
     let is_next : c.max-at.result ≡ int_max c.max-from.result block.to = simp to_z-of_z at c.max-at.ensures.value in
     let early : block.from <ℤ run.to = omega (arith, ints, c.if-blocked-j.true) in
-    let appends : Appends c.loop-i.answer.items c.max-from.result block.from c.append.new.runs.items = simp to_z-of_z at c.in_ok-append.ensures in (
+    let appends : AddsCells c.loop-i.answer.items c.max-from.result block.from c.append.new.runs.items = simp to_z-of_z at c.in_ok-append.ensures in (
       rw (to_z-of_z w64 c.max-at.result next_fits)
           (settled_block covered blocked c.loop-i.answer.items c.append.new.runs.items c.loop-i.at c.max-from.result c.max-at.result i j run block is_at c.if-j-blocked.true
           (get_or_default covered i nothing run c.loop-i-test.true) (get_or_default blocked j nothing block c.if-j-blocked.true) early is_from is_next appends),
@@ -63,8 +63,8 @@ loop-i-preserved-then-blocked-j c =
       omega arith,
     )
 
-pub append-requires-else-j-blocked-clause-behind : goal.append-requires-else-j-blocked-clause-behind
-append-requires-else-j-blocked-clause-behind c =
+pub append-requires-else-j-blocked-clause-ended : goal.append-requires-else-j-blocked-clause-ended
+append-requires-else-j-blocked-clause-ended c =
     let s = c.loop-i.invariant.0 in
     λ k d below. let ends : (get_or c.loop-i.answer.items k d).to ≤ℤ to_z w64 c.loop-i.at-bits = s.ends k d below in omega (arith, ints, c.max-from.ensures.self_bound)
 
@@ -98,7 +98,7 @@ loop-i-preserved c =
           omega (arith, ints, w.if-blocked-j.false)
       | else-j-blocked-via-else-j-blocked w ↦ λ d within. absurd (omega arith)
     ] in
-    let appends : Appends c.loop-i.answer.items c.max-from.result run.to c.append-else-j-blocked.new.runs.items = simp to_z-of_z at c.in_ok-append-2.ensures in (
+    let appends : AddsCells c.loop-i.answer.items c.max-from.result run.to c.append-else-j-blocked.new.runs.items = simp to_z-of_z at c.in_ok-append-2.ensures in (
       rw (to_z-of_z w64 c.max-at-else-j-blocked.result next_fits)
           (settled_run covered blocked c.loop-i.answer.items c.append-else-j-blocked.new.runs.items c.loop-i.at c.max-from.result c.max-at-else-j-blocked.result i j run is_at
           (get_or_default covered i nothing run c.loop-i-test.true) late is_from is_next appends),

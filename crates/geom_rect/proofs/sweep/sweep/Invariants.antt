@@ -1,5 +1,5 @@
 use Rattle.std.proofs.Common.{length, ◌-◌, ◌+◌, ◌≤◌}
-use Rattle.geom_rect.specs.Sweep.{IsSettled}
+use Rattle.geom_rect.specs.inside.Sweep.{IsSettled}
 use Rattle.geom_rect.proofs.sweep.sweep.Given as goal
 
 abbrev pub invariant-loop-i : goal.invariant-loop-i

@@ -2,7 +2,7 @@
 use Rattle.std.specs.Prelude.{ℕ, ℤ, ◌<ℤ◌, ◌≤ℤ◌, ◌↔◌, ◌⊎◌, List, All, AllPairs}
 use Rattle.std.specs.List.{AllWithin}
 use Rattle.geom_rect.specs.declared.run.Run.{Run}
-use Rattle.geom_rect.specs.Runs.{IsHeld, IsOpen}
+use Rattle.geom_rect.specs.Run.{IsHeld, IsOpen}
 
 -- each run has a cell
 abbrev pub HaveCells : List Run → Type 0
@@ -28,7 +28,7 @@ abbrev pub EndBy : ℤ → List Run → Type 0
 EndBy at runs = All (λ (run : Run). run.to ≤ℤ at) runs
 
 -- the cells from `from` up to below `to` are added at the end
-pub record Appends (old : List Run) (from to : ℤ) (new : List Run) : Type 0 where
+pub record AddsCells (old : List Run) (from to : ℤ) (new : List Run) : Type 0 where
   pub held : (t : ℤ) → IsHeld new t ↔ (IsHeld old t ⊎ ((from ≤ℤ t) × (t <ℤ to)))
   pub separate : AreSeparate new
   pub ends : (at : ℤ) → from ≤ℤ at → to ≤ℤ at → EndBy at new
@@ -38,5 +38,5 @@ pub record IsSettled (covered blocked : List Run) (at : ℤ) (i j : ℕ) (answer
   pub known : (t : ℤ) → t <ℤ at → IsHeld answer t ↔ IsOpen covered blocked t
   pub separate : AreSeparate answer
   pub ends : EndBy at answer
-  pub covered_behind : AllWithin (λ (run : Run). run.to ≤ℤ at) covered 0 i
-  pub blocked_behind : AllWithin (λ (run : Run). run.to ≤ℤ at) blocked 0 j
+  pub covered_ended : AllWithin (λ (run : Run). run.to ≤ℤ at) covered 0 i
+  pub blocked_ended : AllWithin (λ (run : Run). run.to ≤ℤ at) blocked 0 j

@@ -20,9 +20,9 @@ pub record IsMaximal (P : ℤ → Type 0) (run : Run) : Type 0 where
   pub some : run.from <ℤ run.to
   -- each of its cells has the property
   pub each : (t : ℤ) → HasCell run t → P t
-  -- the cell before it has not, and neither has the cell behind it
+  -- the cell before it has not, and neither has the cell after it
   pub before : P (run.from -ℤ pos 1) → ⊥
-  pub behind : P run.to → ⊥
+  pub after : P run.to → ⊥
 
 -- all maximal runs of the cells with the property, rising
 pub record AreMaximalRuns (P : ℤ → Type 0) (runs : List Run) : Type 0 where

@@ -1,139 +1,17 @@
--- Whole numbers with a sign: products, and division rounded down and up.
-use Rattle.std.proofs.Common.{refl, ◌≡◌, ℕ, zero, suc, ◌*◌, ◌/◌, ◌%◌, ◌<◌, ℤ, pos, negsuc, neg_ℤ, ◌+ℤ◌, ◌-ℤ◌, ◌*ℤ◌, ◌≤ℤ◌, ◌<ℤ◌, arith, sym, ap, mul-le-mul_left, mul-le-mul_right, ◌≤◌, div-add-mod', mod-lt, inl, inr, ◌⊎◌, ◌∙◌, subst}
-use Rattle.std.proofs.lemmas.Int.{ints, by_lt_z}
-use Rattle.rounding.specs.Rounding.{IsFloor, IsCeiling, floor_div, ceil_div}
-use borrow.Author.Differences.{le_out, lt_out, sum_is_lem, neg_is}
-use Rattle.std.proofs.lemmas.Bool.{cases_lt}
+-- Rust's quotient of whole numbers, which drops the fraction, beside the floor and the ceiling.
+use Rattle.std.proofs.Common.{refl, ◌≡◌, ℕ, zero, suc, ◌^◌, ◌*◌, ◌/◌, ◌%◌, ◌<◌, ℤ, pos, negsuc, neg_ℤ, ◌+ℤ◌, ◌-ℤ◌, ◌*ℤ◌, ◌≤ℤ◌, ◌<ℤ◌, arith, mul-le-mul_left, ◌≤◌, div-add-mod', mod-lt, SFits}
+use mir.Syntax.{w128}
+use Rattle.std.proofs.lemmas.Int.{ints}
+use Rattle.rounding.specs.Rounding.{IsFloor, floor_div, ceil_div}
+use Rattle.rounding.specs.Laws.{times_neg, times_next, times_last, floor_is, floor_unique}
 use lib.Signed.{quot_z}
 use Rattle.std.proofs.Math.Nat.{div-le_self}
-
--- a product grows with its second factor
-pub times_le : (r x y : ℤ) → pos 0 ≤ℤ r → x ≤ℤ y → (r *ℤ x) ≤ℤ (r *ℤ y)
-times_le (pos k) x y h le = omega (arith, ints, mul-le-mul_left k (le_out x y le))
-times_le (negsuc k) x y h le = omega (arith, ints)
-
--- a positive factor makes a product grow by at least as much
-times_lt : (r x y : ℤ) → pos 1 ≤ℤ r → x <ℤ y → (r *ℤ x +ℤ r) ≤ℤ (r *ℤ y)
-times_lt (pos k) x y h lt = omega (arith, ints, mul-le-mul_left k (lt_out x y lt))
-times_lt (negsuc k) x y h lt = omega (arith, ints)
-
--- a positive factor may be left out
-pub times_le_out : (r x y : ℤ) → pos 1 ≤ℤ r → (r *ℤ x) ≤ℤ (r *ℤ y) → x ≤ℤ y
-times_le_out r x y h le = by_lt_z y x (λ lt. absurd (omega (arith, ints, times_lt r y x h lt))) (λ this. this)
-
-pub times_lt_out : (r x y : ℤ) → pos 1 ≤ℤ r → (r *ℤ x) <ℤ (r *ℤ y) → x <ℤ y
-times_lt_out r x y h lt =
-    by_lt_z x y (λ this. this) (λ le. absurd (omega (arith, ints, times_le r y x (omega (arith, ints)) le)))
-
--- a factor goes into a sum and a difference
-pub times_sum : (r x y : ℤ) → r *ℤ (x +ℤ y) ≡ r *ℤ x +ℤ r *ℤ y
-times_sum (pos k) x y = omega (arith, ints, ap (λ n. k * n) (sum_is_lem x y))
-times_sum (negsuc k) x y = omega (arith, ints, ap (λ n. suc k * n) (sum_is_lem x y))
-
-pub times_neg : (r x : ℤ) → r *ℤ neg_ℤ x ≡ neg_ℤ (r *ℤ x)
-times_neg (pos k) x = omega (arith, ints, ap (λ n. k * n) (neg_is x).0, ap (λ n. k * n) (neg_is x).1)
-times_neg (negsuc k) x = omega (arith, ints, ap (λ n. suc k * n) (neg_is x).0, ap (λ n. suc k * n) (neg_is x).1)
-
-pub times_one : (r : ℤ) → r *ℤ pos 1 ≡ r
-times_one r = omega (arith, ints)
-
-pub times_next : (r x : ℤ) → r *ℤ (x +ℤ pos 1) ≡ r *ℤ x +ℤ r
-times_next r x = times_sum r x (pos 1) ∙ ap (λ n. r *ℤ x +ℤ n) (times_one r)
-
-pub times_difference : (r x y : ℤ) → r *ℤ (x -ℤ y) ≡ r *ℤ x -ℤ r *ℤ y
-times_difference r x y = times_sum r x (neg_ℤ y) ∙ ap (λ n. r *ℤ x +ℤ n) (times_neg r y)
-
-pub times_last : (r x : ℤ) → r *ℤ (x -ℤ pos 1) ≡ r *ℤ x -ℤ r
-times_last r x = times_difference r x (pos 1) ∙ ap (λ n. r *ℤ x -ℤ n) (times_one r)
-
--- the library's quotient is the floor
-pub floor_is : (z r : ℤ) → pos 1 ≤ℤ r → IsFloor z r (floor_div z r)
-floor_is (pos a) (pos k) h =
-    let s = div-add-mod' a k in let m : a % k < k = mod-lt a (omega (arith, ints)) in record { reached = omega (arith, ints); next_is_above = omega (arith, ints) }
-floor_is (negsuc a) (pos k) h =
-    let s = div-add-mod' a k in
-    let m : a % k < k = mod-lt a (omega (arith, ints)) in
-    record { reached = omega (arith, ints); next_is_above = omega (arith, ints, times_next (pos k) (negsuc (a / k))) }
-floor_is z (negsuc k) h = absurd (omega (arith, ints))
-
--- and there is only one
-pub floor_unique : (z r f g : ℤ) → pos 1 ≤ℤ r → IsFloor z r f → IsFloor z r g → f ≡ g
-floor_unique z r f g h a b =
-    let m : f <ℤ (g +ℤ pos 1) = times_lt_out r f (g +ℤ pos 1) h (omega (arith, ints, a.reached, b.next_is_above)) in
-    let n : g <ℤ (f +ℤ pos 1) = times_lt_out r g (f +ℤ pos 1) h (omega (arith, ints, b.reached, a.next_is_above)) in
-    omega (arith, ints)
-
--- the negated quotient of the negated number is the ceiling
-pub ceiling_is : (z r : ℤ) → pos 1 ≤ℤ r → IsCeiling z r (ceil_div z r)
-ceiling_is z r h =
-    let f = floor_is (neg_ℤ z) r h in
-    let e = times_neg r (floor_div (neg_ℤ z) r) in
-    let n = times_next r (floor_div (neg_ℤ z) r) in
-    let l = times_last r (ceil_div z r) in
-    record { reaches = omega (arith, ints, f.reached); last_is_below = omega (arith, ints, f.next_is_above) }
-
-pub ceiling_unique : (z r f g : ℤ) → pos 1 ≤ℤ r → IsCeiling z r f → IsCeiling z r g → f ≡ g
-ceiling_unique z r f g h a b =
-    let m : (f -ℤ pos 1) <ℤ g = times_lt_out r (f -ℤ pos 1) g h (omega (arith, ints, a.last_is_below, b.reaches)) in
-    let n : (g -ℤ pos 1) <ℤ f = times_lt_out r (g -ℤ pos 1) f h (omega (arith, ints, b.last_is_below, a.reaches)) in
-    omega (arith, ints)
-
--- two factors change places
-swap_pos : (k q n : ℕ) → pos k *ℤ (pos q *ℤ pos n) ≡ pos q *ℤ (pos k *ℤ pos n)
-swap_pos k q n = ap pos (omega arith)
-
-swap_neg : (k q n : ℕ) → pos k *ℤ (pos q *ℤ negsuc n) ≡ pos q *ℤ (pos k *ℤ negsuc n)
-swap_neg k q n =
-    ap (λ t. pos k *ℤ t) (times_neg (pos q) (pos (suc n)))
-    ∙ times_neg (pos k) (pos (q * suc n))
-    ∙ ap neg_ℤ (swap_pos k q (suc n))
-    ∙ sym (times_neg (pos q) (pos (k * suc n)))
-    ∙ ap (λ t. pos q *ℤ t) (sym (times_neg (pos k) (pos (suc n))))
-
-pub times_swap : (r : ℤ) (q : ℕ) (x : ℤ) → pos 1 ≤ℤ r → r *ℤ (pos q *ℤ x) ≡ pos q *ℤ (r *ℤ x)
-times_swap (pos k) q (pos n) h = swap_pos k q n
-times_swap (pos k) q (negsuc n) h = swap_neg k q n
-times_swap (negsuc k) q x h = absurd (omega (arith, ints))
-
--- a value at 0 or below n, by the place of the last
-below_or_last : (j n : ℕ) → j < suc n → (j < n) ⊎ (j ≡ n)
-below_or_last j n h = elim (cases_lt j n) [ inl l ↦ inl l | inr g ↦ inr (omega arith) ]
-
-first_is_greatest : (f : ℕ → ℤ) (j : ℕ) → j < 1 → f j ≤ℤ f 0
-first_is_greatest f zero h = omega (arith, ints)
-first_is_greatest f (suc j) h = absurd (omega arith)
-
-keeps_greatest : (f : ℕ → ℤ) (n i : ℕ) → ((j : ℕ) → j < n → f j ≤ℤ f i) → f n ≤ℤ f i → (j : ℕ) → j < suc n → f j ≤ℤ f i
-keeps_greatest f n i all le j h = elim (below_or_last j n h) [ inl l ↦ all j l | inr e ↦ subst (λ (m : ℕ). f m ≤ℤ f i) (sym e) le ]
-
--- one of the first n numbers, and n is not 0, has the greatest value
-pub greatest_of : (f : ℕ → ℤ) (n : ℕ) → 0 < n → (i : ℕ) × (i < n) × ((j : ℕ) → j < n → f j ≤ℤ f i)
-greatest_of f zero h = absurd (omega arith)
-greatest_of f (suc zero) h = (0, omega arith, first_is_greatest f)
-greatest_of f (suc (suc n)) h =
-    let b = greatest_of f (suc n) (omega arith) in
-    by_lt_z (f b.0) (f (suc n))
-    (λ lt. (suc n, omega arith, keeps_greatest f (suc n) (suc n) (λ j l. omega (arith, ints, b.2 j l)) (omega (arith, ints))))
-    (λ le. (b.0, omega (arith, b.1), keeps_greatest f (suc n) b.0 b.2 le))
-
--- a floor is no farther from 0 than a limit of the number
-pub floor_in_limit : (z r : ℤ) (m : ℕ) → pos 1 ≤ℤ r → neg_ℤ (pos m) ≤ℤ z → z ≤ℤ pos m → (neg_ℤ (pos m) ≤ℤ floor_div z r) × (floor_div z r ≤ℤ pos m)
-floor_in_limit z r m h low high =
-    let f = floor_is z r h in
-    let grown : pos m ≤ℤ (r *ℤ pos m) = factor_at_least r m h in
-    let n = times_neg r (pos m) in
-    let below : neg_ℤ (pos m) <ℤ (floor_div z r +ℤ pos 1) = times_lt_out r (neg_ℤ (pos m)) (floor_div z r +ℤ pos 1) h (omega (arith, ints, f.next_is_above, grown, n, low)) in
-    (omega (arith, ints, below), times_le_out r (floor_div z r) (pos m) h (omega (arith, ints, f.reached, grown, high)))
-  where
-    factor_at_least : (r : ℤ) (m : ℕ) → pos 1 ≤ℤ r → pos m ≤ℤ (r *ℤ pos m)
-    factor_at_least (pos k) m h = let le : 1 ≤ k = omega (arith, ints) in omega (arith, ints, mul-le-mul_right m le)
-    factor_at_least (negsuc k) m h = absurd (omega (arith, ints))
 
 product_neg : (n k : ℕ) → neg_ℤ (pos n) *ℤ pos k ≡ neg_ℤ (pos (n * k))
 product_neg zero k = omega (arith, ints)
 product_neg (suc n) k = omega (arith, ints)
 
--- Rust's quotient, which drops the fraction, is the floor where its product with the divisor is not above the number
+-- Rust's quotient, which drops the fraction, is the floor where its product with the divisor is not above the number.
 pub quotient_down : (z r : ℤ) → pos 1 ≤ℤ r → (quot_z z r *ℤ r) ≤ℤ z → quot_z z r ≡ floor_div z r
 quotient_down z r h le = floor_unique z r (quot_z z r) (floor_div z r) h (is_floor z r h le) (floor_is z r h)
   where
@@ -150,7 +28,7 @@ quotient_down z r h le = floor_unique z r (quot_z z r) (floor_div z r) h (is_flo
         record { reached = omega (arith, ints, t, u, le); next_is_above = omega (arith, ints, n, t, u, le) }
     is_floor z (negsuc k) h le = absurd (omega (arith, ints))
 
--- and else it is one more than the floor
+-- And else it is one more than the floor.
 pub quotient_over : (z r : ℤ) → pos 1 ≤ℤ r → z <ℤ (quot_z z r *ℤ r) → quot_z z r -ℤ pos 1 ≡ floor_div z r
 quotient_over z r h lt = floor_unique z r (quot_z z r -ℤ pos 1) (floor_div z r) h (is_floor z r h lt) (floor_is z r h)
   where
@@ -167,14 +45,14 @@ quotient_over z r h lt = floor_unique z r (quot_z z r -ℤ pos 1) (floor_div z r
         record { reached = omega (arith, ints, l, t, u); next_is_above = omega (arith, ints, n, l, t, u, lt) }
     is_floor z (negsuc k) h lt = absurd (omega (arith, ints))
 
--- the quotient of the negated number is the negated quotient
+-- The quotient of the negated number is the negated quotient.
 pub quotient_turned : (z r : ℤ) → pos 1 ≤ℤ r → quot_z (neg_ℤ z) r ≡ neg_ℤ (quot_z z r)
 quotient_turned (pos zero) (pos k) h = let e = div-le_self 0 k in omega (arith, ints, e)
 quotient_turned (pos (suc a)) (pos k) h = refl
 quotient_turned (negsuc a) (pos k) h = omega (arith, ints)
 quotient_turned z (negsuc k) h = absurd (omega (arith, ints))
 
--- the quotient, and its product with the divisor, are no farther from 0 than the number
+-- The quotient, and its product with the divisor, are no farther from 0 than the number.
 pub quotient_in_limit : (z r : ℤ) (m : ℕ) → pos 1 ≤ℤ r → neg_ℤ (pos m) ≤ℤ z → z <ℤ pos m → (neg_ℤ (pos m) ≤ℤ quot_z z r) × (quot_z z r <ℤ pos m)
 quotient_in_limit (pos a) (pos k) m h low high = let le = div-le_self a k in (omega (arith, ints), omega (arith, ints, le))
 quotient_in_limit (negsuc a) (pos k) m h low high = let le = div-le_self (suc a) k in (omega (arith, ints, le), omega (arith, ints))
@@ -188,7 +66,7 @@ product_in_limit (negsuc a) (pos k) m h low high =
     (omega (arith, ints, s, u), omega (arith, ints, s, u))
 product_in_limit z (negsuc k) m h low high = absurd (omega (arith, ints))
 
--- the same for the ceiling
+-- The same for the ceiling.
 turned_product : (z r : ℤ) → pos 1 ≤ℤ r → quot_z (neg_ℤ z) r *ℤ r ≡ neg_ℤ (quot_z z r *ℤ r)
 turned_product (pos zero) (pos k) h = let e = div-le_self 0 k in omega (arith, ints, e, product_neg (0 / k) k)
 turned_product (pos (suc a)) (pos k) h = omega (arith, ints, product_neg (suc a / k) k)
@@ -209,13 +87,7 @@ quotient_under z r h lt =
     let over = quotient_over (neg_ℤ z) r h (omega (arith, ints, p, lt)) in
     omega (arith, ints, t, over)
 
--- a ceiling is no farther from 0 than a limit of the number
-pub ceiling_in_limit : (z r : ℤ) (m : ℕ) → pos 1 ≤ℤ r → neg_ℤ (pos m) ≤ℤ z → z ≤ℤ pos m → (neg_ℤ (pos m) ≤ℤ ceil_div z r) × (ceil_div z r ≤ℤ pos m)
-ceiling_in_limit z r m h low high =
-    let f = floor_in_limit (neg_ℤ z) r m h (omega (arith, ints)) (omega (arith, ints)) in
-    (omega (arith, ints, f), omega (arith, ints, f))
-
--- one more than a quotient whose product with the divisor is below the number is at most the number
+-- One more than a quotient whose product with the divisor is below the number is at most the number.
 pub next_at_most : (z r : ℤ) → pos 1 ≤ℤ r → (quot_z z r *ℤ r) <ℤ z → (quot_z z r +ℤ pos 1) ≤ℤ z
 next_at_most (pos a) (pos k) h lt =
     let one : 1 ≤ k = omega (arith, ints) in
@@ -226,3 +98,14 @@ next_at_most (negsuc a) (pos k) h lt =
     let u = product_neg (suc a / k) k in
     absurd (omega (arith, ints, s, u, lt))
 next_at_most z (negsuc k) h lt = absurd (omega (arith, ints))
+
+-- Rust's quotient, and its product with the divisor, fit 128 bits.
+pub record Truncated (z r : ℤ) : Type 0 where
+  pub quotient : SFits w128 (quot_z z r)
+  pub product : SFits w128 (quot_z z r *ℤ r)
+
+pub truncated : (z r : ℤ) → SFits w128 z → pos 1 ≤ℤ r → Truncated z r
+truncated z r fz h =
+    let q = quotient_in_limit z r (2 ^ 127) h (omega (arith, ints, fz)) (omega (arith, ints, fz)) in
+    let p = product_in_limit z r (2 ^ 127) h (omega (arith, ints, fz)) (omega (arith, ints, fz)) in
+    record { quotient = omega (arith, ints, q); product = omega (arith, ints, p) }

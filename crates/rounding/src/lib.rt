@@ -2,7 +2,14 @@
 #![tactic(auto)]
 
 ghost use Rattle.std.specs.Prelude.{◌≡◌, ℤ, pos, ◌≤ℤ◌};
-ghost use Rattle.rounding.specs.Rounding.{IsFloor, IsCeiling, floor_div, ceil_div};
+ghost use Rattle.rounding.specs.Rounding.{IsFloor, IsCeiling, floor_div, ceil_div, quotient};
+
+/// Which way a quotient that is no whole number is rounded.
+#[derive(Clone, Copy, Debug, PartialEq, Eq)]
+pub enum Round {
+    Down,
+    Up,
+}
 
 /// The law of `floor_div`: for a positive divisor it is the floor of the fraction, and no other number is.
 pub fn floor_law()
@@ -16,30 +23,36 @@ pub fn ceiling_law()
     ensures unique { (z r f g : ℤ) → pos 1 ≤ℤ r → IsCeiling z r f → IsCeiling z r g → f ≡ g }
 {}
 
-/// `z / r` rounded down, by a single division.
+/// `z / r` rounded, by a single division.
+#[inline]
+pub fn divide(round: Round, z: i128, r: i128) -> i128
+    requires { pos 1 ≤ℤ r }
+    ensures { result ≡ quotient round z r }
+{
+    let quotient = z / r;
+    let product = quotient * r;
+    match round {
+        Round::Down => if product > z { quotient - 1 } else { quotient },
+        Round::Up => if product < z { quotient + 1 } else { quotient },
+    }
+}
+
+/// `z / r` rounded down.
+#[inline]
 pub fn div_floor(z: i128, r: i128) -> i128
     requires { pos 1 ≤ℤ r }
     ensures { result ≡ floor_div z r }
 {
-    let quotient = z / r;
-    if quotient * r > z {
-        quotient - 1
-    } else {
-        quotient
-    }
+    divide(Round::Down, z, r)
 }
 
-/// `z / r` rounded up, by a single division.
+/// `z / r` rounded up.
+#[inline]
 pub fn div_ceil(z: i128, r: i128) -> i128
     requires { pos 1 ≤ℤ r }
     ensures { result ≡ ceil_div z r }
 {
-    let quotient = z / r;
-    if quotient * r < z {
-        quotient + 1
-    } else {
-        quotient
-    }
+    divide(Round::Up, z, r)
 }
 
 #[cfg(test)]

@@ -1,4 +1,4 @@
-use Rattle.rounding.proofs.Whole.{ceiling_is, ceiling_unique}
+use Rattle.rounding.specs.Laws.{ceiling_is, ceiling_unique}
 use Rattle.rounding.proofs.ceiling_law.Goals as goal
 
 pub returns-clause-holds : goal.returns-clause-holds

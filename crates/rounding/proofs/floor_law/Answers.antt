@@ -1,4 +1,4 @@
-use Rattle.rounding.proofs.Whole.{floor_unique}
+use Rattle.rounding.specs.Laws.{floor_unique}
 use Rattle.rounding.proofs.floor_law.Goals as goal
 
 pub returns-clause-unique : goal.returns-clause-unique

@@ -10,14 +10,14 @@ use Rattle.level_region.specs.Cuts.{IsCut, Cut, AreInTurn, spans_of}
 AllPairs-nil : {X : Type 0} (R : X → X → Type 0) → AllPairs R []
 AllPairs-nil R i j d less within = absurd (omega arith)
 
--- one more element in front
+-- One more element in front.
 AllPairs-cons : {X : Type 0} (R : X → X → Type 0) (x : X) (xs : List X) → All (R x) xs → AllPairs R xs → AllPairs R (x ∷ xs)
 AllPairs-cons R x xs first others zero zero d less within = absurd (omega arith)
 AllPairs-cons R x xs first others zero (suc j) d less within = first j d (omega arith)
 AllPairs-cons R x xs first others (suc i) zero d less within = absurd (omega arith)
 AllPairs-cons R x xs first others (suc i) (suc j) d less within = others i j d (omega arith) (omega arith)
 
--- an answer of `cut` in front of the spans
+-- An answer of `cut` in front of the spans.
 All-cons_option : (P : Span → Type 0) (answer : Option Span) (spans : List Span) → IfSome answer P → All P spans → All P (cons_option answer spans)
 All-cons_option P None spans first others = others
 All-cons_option P (Some span) spans first others = All-cons P span spans first others
@@ -26,11 +26,11 @@ AllPairs-cons_option : (R : Span → Span → Type 0) (answer : Option Span) (sp
 AllPairs-cons_option R None spans first others = others
 AllPairs-cons_option R (Some span) spans first others = AllPairs-cons R span spans first others
 
--- the span begins at cell `low` or behind it
+-- The span begins at cell `low` or behind it.
 abbrev Behind : ℕ → Span → Type 0
 Behind low span = low ≤ span.start
 
--- the cells that a call of `cut` takes: from `low` up to below `high`
+-- The cells that a call of `cut` takes: from `low` up to below `high`.
 record Takes (low : ℕ) (answer : Option Span) (high : ℕ) : Type 0 where
   rises : low ≤ high
   begins : IfSome answer (Behind low)
@@ -46,7 +46,7 @@ takes_of before after n (Some span) is =
     let used : after.used ≡ before.used + n = ap (λ (b : Block). b.used) is.counted in
     record { rises = omega arith; begins = omega arith; ends = omega arith }
 
--- the first of the calls finds at least `low` cells used
+-- The first of the calls finds at least `low` cells used.
 abbrev BeginAt : ℕ → List Cut → Type 0
 BeginAt low [] = ⊤
 BeginAt low (cut ∷ cuts) = low ≤ cut.before.used
@@ -59,7 +59,7 @@ others_in_turn : (cut : Cut) (cuts : List Cut) → AreInTurn (cut ∷ cuts) → 
 others_in_turn cut [] in_turn = tt
 others_in_turn cut (next ∷ cuts) in_turn = in_turn.1
 
--- no span begins before the cells that the first call finds used
+-- No span begins before the cells that the first call finds used.
 all_behind : (low : ℕ) (cuts : List Cut) → AreInTurn cuts → BeginAt low cuts → All (Behind low) (spans_of cuts)
 all_behind low [] in_turn begin = All-nil (Behind low)
 all_behind low (cut ∷ cuts) in_turn begin =
@@ -72,7 +72,7 @@ all_behind low (cut ∷ cuts) in_turn begin =
     weaker None h = tt
     weaker (Some span) h = omega arith
 
--- a span that ends at `high` overlaps none that begins there or behind it
+-- A span that ends at `high` overlaps none that begins there or behind it.
 apart_from_all : (high : ℕ) (answer : Option Span) (spans : List Span) → IfSome answer (λ span. end_of span ≡ high) → All (Behind high) spans → IfSome answer (λ span. All (AreApart span) spans)
 apart_from_all high None spans ends behind = tt
 apart_from_all high (Some span) spans ends behind =

@@ -10,12 +10,12 @@ use Rattle.level_region.proofs.Written.{joined, both_joined, length-joined, join
 same_block : (one other : Block) → one.cells ≡ other.cells → one.used ≡ other.used → one ≡ other
 same_block one other cells used = λ i. record { cells = cells i; used = used i }
 
--- nothing written changes nothing
+-- Nothing written changes nothing.
 written_over-nil : (block : Block) (start : ℕ) → start ≤ length block.cells → written_over block start [] ≡ block
 written_over-nil block start within =
     same_block (written_over block start []) block (cells-written_over block start [] (omega arith) ∙ joined-nil block.cells start) refl
 
--- two writes, as cells
+-- Two writes, as cells.
 cells-twice : (block : Block) (first : ℕ) (x : List ℤ) (second : ℕ) (y : List ℤ) → first + length x ≤ length block.cells → second + length y ≤ length block.cells
     → (written_over (written_over block first x) second y).cells ≡ joined (joined block.cells first x) second y
 cells-twice block first x second y first_fits second_fits =
@@ -23,7 +23,7 @@ cells-twice block first x second y first_fits second_fits =
     let long = length-joined block.cells first x first_fits in
     cells-written_over (written_over block first x) second y (omega (arith, ap length once)) ∙ ap (λ cells. joined cells second y) once
 
--- the three ways to write x over the first span and y over the second
+-- The three ways to write x over the first span and y over the second.
 record SameWrites (block : Block) (low high : Span) (x y : List ℤ) : Type 0 where
   upward : written_over block low.start (x ++ (take (high.start - end_of low) (drop (end_of low) block.cells) ++ y)) ≡ written_over (written_over block low.start x) high.start y
   downward : written_over block low.start (x ++ (take (high.start - end_of low) (drop (end_of low) block.cells) ++ y)) ≡ written_over (written_over block high.start y) low.start x
@@ -72,7 +72,7 @@ both_written-is block a b of_a of_b a_ends b_ends apart a_long b_long = by_order
     between : Span → Span → List ℤ
     between low high = take (high.start - end_of low) (drop (end_of low) block.cells)
 
-    -- `both_written` at what the test says
+    -- `both_written` at what the test says.
     at : Bool → Block
     at first =
         let low : Span = cond first a b in

@@ -3,12 +3,12 @@ use Rattle.std.proofs.Common.{◌≡◌, ℕ, ◌+◌, ◌-◌, ◌<◌, ◌≤�
 use Rattle.std.proofs.lemmas.Bool.{cases_lt, leb-true, leb-false}
 use Rattle.std.proofs.lemmas.List.{length-take-le, length-drop, take-take, drop-take, drop-drop}
 use Rattle.level_region.specs.declared.span.Span.{Span}
-use Rattle.level_region.specs.Block.{Block, end_of, AreApart, part_of, first_of, second_of, gap_of, hull_of, written_over, both_written}
+use Rattle.level_region.specs.Block.{Block, end_of, AreApart, part_of, front_of, back_of, gap_of, hull_of, written_over, both_written}
 
--- the span that begins first, the other one, and what is known of them
+-- The span that begins first, the other one, and what is known of them.
 pub record AreOrdered (low high : Span) : Type 0 where
   pub order : low.start ≤ high.start
-  -- they overlap in no cell: the second begins behind the first, or has no cell
+  -- They overlap in no cell: the second begins behind the first, or has no cell.
   pub apart : (end_of low ≤ high.start) ⊎ (high.len ≡ 0)
 
 pub ordered : (low high : Span) → low.start ≤ high.start → AreApart low high → AreOrdered low high
@@ -19,14 +19,14 @@ ordered low high order apart = record { order = order; apart = by_end (cases_lt 
     by_end (inl inside) (inl some) = absurd (apart high.start (order, inside) (omega arith, omega arith))
     by_end (inl inside) (inr none) = inr (omega arith)
 
-pub are_ordered : (a b : Span) → AreApart a b → AreOrdered (first_of a b) (second_of a b)
+pub are_ordered : (a b : Span) → AreApart a b → AreOrdered (front_of a b) (back_of a b)
 are_ordered a b apart = by_order (nat_le a.start b.start) refl
   where
     by_order : (first : Bool) → nat_le a.start b.start ≡ first → AreOrdered (cond first a b) (cond first b a)
     by_order true is = ordered a b (leb-true a.start b.start is) apart
     by_order false is = ordered b a (omega (arith, leb-false a.start b.start is)) (λ k in_b in_a. apart k in_a in_b)
 
--- both spans end within the first n cells, and so does the hull
+-- Both spans end within the first n cells, and so does the hull.
 hull_ends : (low high : Span) (n : ℕ) → AreOrdered low high → end_of low ≤ n → end_of high ≤ n → low.start + (low.len + ((high.start - end_of low) + high.len)) ≤ n
 hull_ends low high n are low_ends high_ends = by_apart are.apart
   where
@@ -38,7 +38,7 @@ hull_ends low high n are low_ends high_ends = by_apart are.apart
         hull_short (inl inside) = omega arith
         hull_short (inr behind) = omega arith
 
-pub first_ends : (a b : Span) (n : ℕ) → end_of a ≤ n → end_of b ≤ n → (end_of (first_of a b) ≤ n) × (end_of (second_of a b) ≤ n)
+pub first_ends : (a b : Span) (n : ℕ) → end_of a ≤ n → end_of b ≤ n → (end_of (front_of a b) ≤ n) × (end_of (back_of a b) ≤ n)
 first_ends a b n a_ends b_ends = by_order (nat_le a.start b.start)
   where
     by_order : (first : Bool) → (end_of (cond first a b) ≤ n) × (end_of (cond first b a) ≤ n)
@@ -48,12 +48,12 @@ first_ends a b n a_ends b_ends = by_order (nat_le a.start b.start)
 pub hull_within : (a b : Span) (n : ℕ) → AreApart a b → end_of a ≤ n → end_of b ≤ n → end_of (hull_of a b) ≤ n
 hull_within a b n apart a_ends b_ends =
     let ends = first_ends a b n a_ends b_ends in
-    hull_ends (first_of a b) (second_of a b) n (are_ordered a b apart) ends.0 ends.1
+    hull_ends (front_of a b) (back_of a b) n (are_ordered a b apart) ends.0 ends.1
 
 pub length-part_of : (block : Block) (span : Span) → end_of span ≤ length block.cells → length (part_of block span) ≡ span.len
 length-part_of block span within = length-take-le span.len (drop span.start block.cells) (omega (arith, length-drop span.start block.cells))
 
--- what is cut out of the hull: the first span's cells, what lies between, and the second span's
+-- What is cut out of the hull: the first span's cells, what lies between, and the second span's.
 pub take-hull : (cells : List ℤ) (low : Span) (rest : ℕ) → take low.len (take (low.len + rest) (drop low.start cells)) ≡ take low.len (drop low.start cells)
 take-hull cells low rest = take-take low.len (low.len + rest) (drop low.start cells) (omega arith)
 
@@ -75,33 +75,33 @@ second-hull cells low high are =
     by_apart (inl behind) = let place : end_of low + (high.start - end_of low) ≡ high.start = omega arith in ap (λ n. take high.len (drop n cells)) place
     by_apart (inr none) = ap (λ n. take n (drop (end_of low + gap) cells)) none ∙ sym (ap (λ n. take n (drop high.start cells)) none)
 
-pub first_part : (block : Block) (a b : Span) → take (first_of a b).len (part_of block (hull_of a b)) ≡ part_of block (first_of a b)
-first_part block a b = take-hull block.cells (first_of a b) (gap_of a b + (second_of a b).len)
+pub first_part : (block : Block) (a b : Span) → take (front_of a b).len (part_of block (hull_of a b)) ≡ part_of block (front_of a b)
+first_part block a b = take-hull block.cells (front_of a b) (gap_of a b + (back_of a b).len)
 
-pub second_part : (block : Block) (a b : Span) → AreApart a b → drop (gap_of a b) (drop (first_of a b).len (part_of block (hull_of a b))) ≡ part_of block (second_of a b)
-second_part block a b apart = second-hull block.cells (first_of a b) (second_of a b) (are_ordered a b apart)
+pub second_part : (block : Block) (a b : Span) → AreApart a b → drop (gap_of a b) (drop (front_of a b).len (part_of block (hull_of a b))) ≡ part_of block (back_of a b)
+second_part block a b apart = second-hull block.cells (front_of a b) (back_of a b) (are_ordered a b apart)
 
-pub gap_part : (block : Block) (a b : Span) → take (gap_of a b) (drop (first_of a b).len (part_of block (hull_of a b))) ≡ take (gap_of a b) (drop (end_of (first_of a b)) block.cells)
-gap_part block a b = gap-hull block.cells (first_of a b) (gap_of a b) (second_of a b).len
+pub gap_part : (block : Block) (a b : Span) → take (gap_of a b) (drop (front_of a b).len (part_of block (hull_of a b))) ≡ take (gap_of a b) (drop (end_of (front_of a b)) block.cells)
+gap_part block a b = gap-hull block.cells (front_of a b) (gap_of a b) (back_of a b).len
 
--- the parts that the hull was split into
+-- The parts that the hull was split into.
 pub record AreParts (block : Block) (a b : Span) (low between high : List ℤ) : Type 0 where
-  pub low_is : low ≡ part_of block (first_of a b)
-  pub between_is : between ≡ take (gap_of a b) (drop (end_of (first_of a b)) block.cells)
-  pub high_is : high ≡ part_of block (second_of a b)
+  pub low_is : low ≡ part_of block (front_of a b)
+  pub between_is : between ≡ take (gap_of a b) (drop (end_of (front_of a b)) block.cells)
+  pub high_is : high ≡ part_of block (back_of a b)
 
 pub are_parts : (block : Block) (a b : Span) (all low others between high : List ℤ) → AreApart a b
-    → all ≡ part_of block (hull_of a b) → low ≡ take (first_of a b).len all → others ≡ drop (first_of a b).len all → between ≡ take (gap_of a b) others → high ≡ drop (gap_of a b) others
+    → all ≡ part_of block (hull_of a b) → low ≡ take (front_of a b).len all → others ≡ drop (front_of a b).len all → between ≡ take (gap_of a b) others → high ≡ drop (gap_of a b) others
     → AreParts block a b low between high
 are_parts block a b all low others between high apart all_is low_is others_is between_is high_is =
-    let rest_is : others ≡ drop (first_of a b).len (part_of block (hull_of a b)) = others_is ∙ ap (drop (first_of a b).len) all_is in
+    let rest_is : others ≡ drop (front_of a b).len (part_of block (hull_of a b)) = others_is ∙ ap (drop (front_of a b).len) all_is in
     record {
-      low_is = low_is ∙ ap (take (first_of a b).len) all_is ∙ first_part block a b;
+      low_is = low_is ∙ ap (take (front_of a b).len) all_is ∙ first_part block a b;
       between_is = between_is ∙ ap (take (gap_of a b)) rest_is ∙ gap_part block a b;
       high_is = high_is ∙ ap (drop (gap_of a b)) rest_is ∙ second_part block a b apart;
     }
 
--- where the first span begins first, the parts in their order are theirs
+-- Where the first span begins first, the parts in their order are theirs.
 pub record InOrder (block : Block) (a b : Span) (low between high : List ℤ) : Type 0 where
   pub of_a : low ≡ part_of block a
   pub of_b : high ≡ part_of block b
@@ -112,10 +112,10 @@ in_order block a b low between high are first = record {
   of_a = are.low_is ∙ ap (λ t. part_of block (cond t a b)) first;
   of_b = are.high_is ∙ ap (λ t. part_of block (cond t b a)) first;
   writes = λ i u w. (ap (λ gap. written_over block (hull_of a b).start (u ++ (gap ++ w))) are.between_is
-      ∙ ap (λ t. written_over block (hull_of a b).start (cond t (u ++ (take (gap_of a b) (drop (end_of (first_of a b)) block.cells) ++ w)) (w ++ (take (gap_of a b) (drop (end_of (first_of a b)) block.cells) ++ u)))) (sym first)) i;
+      ∙ ap (λ t. written_over block (hull_of a b).start (cond t (u ++ (take (gap_of a b) (drop (end_of (front_of a b)) block.cells) ++ w)) (w ++ (take (gap_of a b) (drop (end_of (front_of a b)) block.cells) ++ u)))) (sym first)) i;
 }
 
--- where it does not, they are turned round
+-- Where it does not, they are turned round.
 pub record Turned (block : Block) (a b : Span) (low between high : List ℤ) : Type 0 where
   pub of_a : high ≡ part_of block a
   pub of_b : low ≡ part_of block b
@@ -126,5 +126,5 @@ turned block a b low between high are second = record {
   of_a = are.high_is ∙ ap (λ t. part_of block (cond t b a)) second;
   of_b = are.low_is ∙ ap (λ t. part_of block (cond t a b)) second;
   writes = λ i w u. (ap (λ gap. written_over block (hull_of a b).start (u ++ (gap ++ w))) are.between_is
-      ∙ ap (λ t. written_over block (hull_of a b).start (cond t (w ++ (take (gap_of a b) (drop (end_of (first_of a b)) block.cells) ++ u)) (u ++ (take (gap_of a b) (drop (end_of (first_of a b)) block.cells) ++ w)))) (sym second)) i;
+      ∙ ap (λ t. written_over block (hull_of a b).start (cond t (w ++ (take (gap_of a b) (drop (end_of (front_of a b)) block.cells) ++ u)) (u ++ (take (gap_of a b) (drop (end_of (front_of a b)) block.cells) ++ w)))) (sym second)) i;
 }

@@ -3,9 +3,9 @@ use Rattle.std.proofs.Common.{◌≡◌, ℕ, suc, [], ◌∷◌, ◌+◌, ◌-�
 use Rattle.std.proofs.lemmas.List.{same_lists, append_assoc, get_or-take, get_or-drop, get_or_append_left, get_or-append_right, length-append, length-take, length-take-le, length-drop, take_all, take-append-drop, take-append-le, take-take, drop-append-le, drop-take, drop-drop}
 use Rattle.std.proofs.lemmas.Bool.{cases_lt}
 use Rattle.level_region.specs.declared.span.Span.{Span}
-use Rattle.level_region.specs.Block.{Block, end_of, HasCell, part_of, written_over, AreApart}
+use Rattle.level_region.specs.Block.{Block, end_of, SpansCell, part_of, written_over, AreApart}
 
--- the cells after the write, which ends within them
+-- The cells after the write, which ends within them.
 abbrev pub joined : List ℤ → ℕ → List ℤ → List ℤ
 joined cells start numbers = take start cells ++ (numbers ++ drop (start + length numbers) cells)
 
@@ -19,7 +19,7 @@ cells-written_over block start numbers fits =
     let long = length-joined block.cells start numbers fits in
     take_all (length block.cells) (joined block.cells start numbers) (omega arith)
 
--- a cell before the write, or behind it, holds what it held
+-- A cell before the write, or behind it, holds what it held.
 get_or-joined : (cells : List ℤ) (start : ℕ) (numbers : List ℤ) (j : ℕ) (d : ℤ) → start + length numbers ≤ length cells → (j < start) ⊎ (start + length numbers ≤ j) → get_or (joined cells start numbers) j d ≡ get_or cells j d
 get_or-joined cells start numbers j d fits (inl before) =
     get_or_append_left (take start cells) (numbers ++ drop (start + length numbers) cells) d j (omega (arith, length-take start cells))
@@ -31,8 +31,8 @@ get_or-joined cells start numbers j d fits (inr behind) =
     ∙ get_or-drop (start + length numbers) cells (j - start - length numbers) d
     ∙ ap (λ i. get_or cells i d) (omega arith)
 
--- a cell that the span has not lies before it or behind it
-outside : (span : Span) (k : ℕ) → (HasCell span k → ⊥) → (k < span.start) ⊎ (end_of span ≤ k)
+-- A cell that the span has not lies before it or behind it.
+outside : (span : Span) (k : ℕ) → (SpansCell span k → ⊥) → (k < span.start) ⊎ (end_of span ≤ k)
 outside span k not_in = by_cases (cases_lt k span.start) (cases_lt k (end_of span))
   where
     by_cases : (k < span.start) ⊎ (span.start ≤ k) → (k < end_of span) ⊎ (end_of span ≤ k) → (k < span.start) ⊎ (end_of span ≤ k)
@@ -40,8 +40,8 @@ outside span k not_in = by_cases (cases_lt k span.start) (cases_lt k (end_of spa
     by_cases (inr from) (inl below) = absurd (not_in (from, below))
     by_cases (inr from) (inr behind) = inr behind
 
--- two regions read the same in a span if they have as many cells, and the same in each of the span's
-same_part : (old new : List ℤ) (span : Span) → length new ≡ length old → ((k : ℕ) (d : ℤ) → HasCell span k → get_or new k d ≡ get_or old k d) → take span.len (drop span.start new) ≡ take span.len (drop span.start old)
+-- Two regions read the same in a span if they have as many cells, and the same in each of the span's.
+same_part : (old new : List ℤ) (span : Span) → length new ≡ length old → ((k : ℕ) (d : ℤ) → SpansCell span k → get_or new k d ≡ get_or old k d) → take span.len (drop span.start new) ≡ take span.len (drop span.start old)
 same_part old new span long same =
     same_lists (take span.len (drop span.start new)) (take span.len (drop span.start old))
     (omega (arith, length-take span.len (drop span.start new), length-take span.len (drop span.start old), length-drop span.start new, length-drop span.start old))
@@ -67,7 +67,7 @@ part_of-others block span other numbers fits long apart =
     by_length k (inl before) = inl before
     by_length k (inr behind) = inr (omega arith)
 
--- parts of two lists that are joined
+-- Parts of two lists that are joined.
 take-append-past : (m : ℕ) (front back : List ℤ) → take (length front + m) (front ++ back) ≡ front ++ take m back
 take-append-past m [] back = ap (λ n. take n back) (omega arith)
 take-append-past m (z ∷ front) back =
@@ -80,15 +80,15 @@ drop-append-past m (z ∷ front) back =
     let step : length (z ∷ front) + m ≡ suc (length front + m) = omega arith in
     ap (λ n. drop n (z ∷ front ++ back)) step ∙ drop-append-past m front back
 
--- nothing is written
+-- Nothing is written.
 pub joined-nil : (cells : List ℤ) (start : ℕ) → joined cells start [] ≡ cells
 joined-nil cells start = ap (λ n. take start cells ++ drop n cells) (omega arith) ∙ take-append-drop start cells
 
--- x is written over the cells from `low` on and y over those from `high` on, with a gap between
+-- x is written over the cells from `low` on and y over those from `high` on, with a gap between.
 abbrev pub both_joined : List ℤ → ℕ → List ℤ → ℕ → List ℤ → List ℤ
 both_joined cells low x gap y = take low cells ++ (x ++ (take gap (drop (low + length x) cells) ++ (y ++ drop (low + length x + gap + length y) cells)))
 
--- the one after the other
+-- The one after the other.
 pub low_then_high : (cells : List ℤ) (low : ℕ) (x : List ℤ) (gap : ℕ) (y : List ℤ) → low + length x + gap + length y ≤ length cells
     → joined (joined cells low x) (low + length x + gap) y ≡ both_joined cells low x gap y
 low_then_high cells low x gap y fits =
@@ -108,7 +108,7 @@ low_then_high cells low x gap y fits =
     ∙ append_assoc front (take gap back) (y ++ drop (low + length x + gap + length y) cells)
     ∙ append_assoc (take low cells) x (take gap back ++ (y ++ drop (low + length x + gap + length y) cells))
 
--- in the other order
+-- In the other order.
 pub high_then_low : (cells : List ℤ) (low : ℕ) (x : List ℤ) (gap : ℕ) (y : List ℤ) → low + length x + gap + length y ≤ length cells
     → joined (joined cells (low + length x + gap) y) low x ≡ both_joined cells low x gap y
 high_then_low cells low x gap y fits =
@@ -120,7 +120,7 @@ high_then_low cells low x gap y fits =
     drop-append-le (low + length x) (take high cells) rest (omega arith) ∙ ap (λ zs. zs ++ rest) (drop-take (low + length x) gap cells) in
     ap (λ zs. zs ++ (x ++ drop (low + length x) (take high cells ++ rest))) start ∙ ap (λ zs. take low cells ++ (x ++ zs)) end
 
--- both at once
+-- Both at once.
 pub both_at_once : (cells : List ℤ) (low : ℕ) (x : List ℤ) (gap : ℕ) (y : List ℤ) → low + length x + gap + length y ≤ length cells
     → joined cells low (x ++ (take gap (drop (low + length x) cells) ++ y)) ≡ both_joined cells low x gap y
 both_at_once cells low x gap y fits =

@@ -2,59 +2,62 @@
 use Rattle.std.specs.Prelude.{ℕ, ◌+◌, ◌-◌, ◌<◌, ◌≤◌, nat_le, if◌then◌else◌, ℤ, List, ◌++◌, length, take, drop}
 use Rattle.level_region.specs.declared.span.Span.{Span}
 
--- the cells of a region, and how many of them are used, from the first on
+-- The cells of a region, and how many of them are used, from the first on.
 pub record Block : Type 0 where
   pub cells : List ℤ
   pub used : ℕ
 
--- how many cells are not used yet
+-- How many cells are not used yet.
 abbrev pub left_of : Block → ℕ
 left_of block = length block.cells - block.used
 
--- the number of the cell behind the span's last one
+-- The number of the cell after the span's last one.
 abbrev pub end_of : Span → ℕ
 end_of span = span.start + span.len
 
--- cell k is one of the span's
-abbrev pub HasCell : Span → ℕ → Type 0
-HasCell span k = (span.start ≤ k) × (k < end_of span)
+-- Cell k is one of the span's.
+abbrev pub SpansCell : Span → ℕ → Type 0
+SpansCell span k = (span.start ≤ k) × (k < end_of span)
 
--- the span ends within the used cells
+-- The span ends within the used cells.
 abbrev pub IsWithin : Span → Block → Type 0
 IsWithin span block = end_of span ≤ block.used
 
--- the spans do not overlap: no cell is in both
+-- The spans do not overlap: no cell is in both.
 abbrev pub AreApart : Span → Span → Type 0
-AreApart a b = (k : ℕ) → HasCell a k → HasCell b k → ⊥
+AreApart a b = (k : ℕ) → SpansCell a k → SpansCell b k → ⊥
 
--- the numbers in the span's cells
+-- The numbers in the span's cells.
 abbrev pub part_of : Block → Span → List ℤ
 part_of block span = take span.len (drop span.start block.cells)
 
--- the region with numbers written over its cells from cell `start` on. No cell comes or goes, and every other cell stays as it is.
+-- The region with numbers written over its cells from cell `start` on. No cell comes or goes, and every other cell
+-- stays as it is.
 abbrev pub written_over : Block → ℕ → List ℤ → Block
 written_over block start numbers = record {
   cells = take (length block.cells) (take start block.cells ++ (numbers ++ drop (start + length numbers) block.cells));
   used = block.used;
 }
 
--- of two spans, the one that begins first, and the other one
-abbrev pub first_of : Span → Span → Span
-first_of a b = if nat_le a.start b.start then a else b
+-- Of two spans, the one that begins first, and the other one.
+abbrev pub front_of : Span → Span → Span
+front_of a b = if nat_le a.start b.start then a else b
 
-abbrev pub second_of : Span → Span → Span
-second_of a b = if nat_le a.start b.start then b else a
+abbrev pub back_of : Span → Span → Span
+back_of a b = if nat_le a.start b.start then b else a
 
--- how many cells lie between the two
+-- How many cells lie between the two.
 abbrev pub gap_of : Span → Span → ℕ
-gap_of a b = (second_of a b).start - end_of (first_of a b)
+gap_of a b = (back_of a b).start - end_of (front_of a b)
 
--- from the first cell of the two to the last one
+-- From the first cell of the two to the last one.
 abbrev pub hull_of : Span → Span → Span
-hull_of a b = record { start = (first_of a b).start; len = (first_of a b).len + (gap_of a b + (second_of a b).len) }
+hull_of a b = record { start = (front_of a b).start; len = (front_of a b).len + (gap_of a b + (back_of a b).len) }
 
--- the region with numbers written over the cells of two spans: from the first cell of both on, one span's numbers, what lies between, and the other's
+-- The region with numbers written over the cells of two spans: from the first cell of both on, one span's numbers, what
+-- lies between, and the other's.
 abbrev pub both_written : Block → Span → Span → List ℤ → List ℤ → Block
 both_written block a b of_a of_b =
-    let between = take (gap_of a b) (drop (end_of (first_of a b)) block.cells) in
-    written_over block (hull_of a b).start (if nat_le a.start b.start then of_a ++ (between ++ of_b) else (of_b ++ (between ++ of_a)))
+    let between = take (gap_of a b) (drop (end_of (front_of a b)) block.cells) in
+    written_over block (hull_of a b).start
+    (if nat_le a.start b.start then of_a ++ (between ++ of_b) else (of_b ++ (between ++ of_a)))

@@ -1,6 +1,6 @@
 ghost use Rattle.std.specs.Prelude.{◌≡◌, ◌+◌, ◌<◌, ◌≤◌, ◌^◌, ◌++◌, length, take, drop, nat_le};
 ghost use Rattle.std.specs.Borrow.{sem, LendsBoth, Array, i128 as cell};
-ghost use Rattle.level_region.specs.Block.{end_of, first_of, second_of, gap_of, hull_of};
+ghost use Rattle.level_region.specs.Block.{end_of, front_of, back_of, gap_of, hull_of};
 
 use crate::span::Span;
 
@@ -41,12 +41,12 @@ pub(crate) fn hull(a: Span, b: Span) -> Span
     }
 }
 
-// The cells of the span that begins first, and those behind it, out of the cells of both and what lies between.
+// The cells of the span that begins first, and those after it, out of the cells of both and what lies between.
 pub(crate) fn split_first(cells: &mut [i128], a: Span, b: Span) -> (&mut [i128], &mut [i128])
-    requires { (first_of a b).len ≤ length cells.old }
+    requires { (front_of a b).len ≤ length cells.old }
     ensures* written { sem 𝓛 (LendsBoth (Array cell 0) (Array cell 0) (Array cell 0) cells.entry result ◌++◌) }
-    ensures front { result.0.now ≡ take (first_of a b).len cells.old }
-    ensures back { result.1.now ≡ drop (first_of a b).len cells.old }
+    ensures front { result.0.now ≡ take (front_of a b).len cells.old }
+    ensures back { result.1.now ≡ drop (front_of a b).len cells.old }
 {
     let len = if begins_first(a, b) { a.len } else { b.len };
     cells.split_at_mut(len)

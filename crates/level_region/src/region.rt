@@ -1,4 +1,4 @@
-ghost use Rattle.std.specs.Prelude.{◌≡◌, ◌+◌, ◌<◌, ◌≤◌, pos, length, replicate, IfOk};
+ghost use Rattle.std.specs.Prelude.{◌≡◌, ◌+◌, ◌<◌, ◌≤◌, ◌^◌, pos, length, replicate, IfOk};
 ghost use Rattle.std.specs.Borrow.{sem};
 ghost use Rattle.level_region.specs.Block.{left_of, part_of, hull_of, IsWithin, AreApart};
 ghost use Rattle.level_region.specs.Cuts.{IsCut};
@@ -30,7 +30,7 @@ impl Model for Region {
 }
 
 impl Region {
-    /// A region of so many cells, each one 0, none of them used. It is made in one allocation.
+    /// A region of `cells` cells, each one 0, none of them used. It is made in one allocation.
     pub fn new(alloc: Global, cells: usize) -> Result<Region, AllocError>
         ensures { IfOk result (λ region. region ≡ record { cells = replicate cells (pos 0); used = 0 }) }
     {
@@ -38,7 +38,8 @@ impl Region {
         Ok(Region { cells, used: 0 })
     }
 
-    /// The next `n` cells, which are used from now on and hold what they held. `None` exactly where fewer than `n` are left; then nothing changes.
+    /// The next `n` cells, which are used from now on and hold what they held. `None` exactly where fewer than `n`
+    /// are left; then nothing changes.
     pub fn cut(&mut self, n: usize) -> Option<Span>
         ensures { IsCut self.old n result self.new }
     {
@@ -54,6 +55,7 @@ impl Region {
     pub fn left(&self) -> usize
         ensures left { result ≡ left_of self.now }
         ensures within { self.now.used ≤ length self.now.cells }
+        ensures fits { length self.now.cells < 2 ^ 64 }
     {
         self.cells.len() - self.used
     }
@@ -61,7 +63,8 @@ impl Region {
     /// The numbers in a span's cells, to be read. The span ends within the used cells.
     pub fn get(&self, span: Span) -> &[i128]
         requires { IsWithin span self.now }
-        ensures { result.now ≡ part_of self.now span }
+        ensures value { result.now ≡ part_of self.now span }
+        ensures len { length result.now ≡ span.len }
     {
         &self.cells[span.start..span.start + span.len]
     }
@@ -71,13 +74,19 @@ impl Region {
         requires { IsWithin span self.old }
         ensures* written { sem 𝓛 (LendsPart self.entry span result) }
         ensures value { result.now ≡ part_of self.old span }
+        ensures len { length result.now ≡ span.len }
     {
         let _used = self.used;
         let end = span.start + span.len;
         run_mut(&mut self.cells, span.start, end)
     }
 
-    /// The numbers in the cells of two spans, to be read and written. Both spans end within the used cells, and they do not overlap.
+    /// The numbers in the cells of two spans, to be read and written. Both spans end within the used cells, and they
+    /// do not overlap.
+    ///
+    /// What the region holds once the slices are given back is known to a reader of the clause, and not to the prover
+    /// at a call, which follows two slices only out of a slice. A caller that goes on with the region in a proof
+    /// takes `get_mut` of one span that has the cells of both, and `split_at_mut` of that.
     pub fn two_mut(&mut self, a: Span, b: Span) -> (&mut [i128], &mut [i128])
         requires a_within { IsWithin a self.old }
         requires b_within { IsWithin b self.old }
@@ -86,7 +95,6 @@ impl Region {
         ensures first { result.0.now ≡ part_of self.old a }
         ensures second { result.1.now ≡ part_of self.old b }
     {
-        // A caller that goes on with the region in a proof learns what it holds from `get_mut` of one span round both, and `split_at_mut`.
         let cells = self.hull_mut(a, b);
         let (low, others) = split_first(cells, a, b);
         let (_, high) = split_gap(others, a, b);

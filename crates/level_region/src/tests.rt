@@ -1,5 +1,27 @@
+ghost use Rattle.std.specs.Prelude.{◌≡◌, ◌≤◌, length};
+ghost use Rattle.level_region.specs.Block.{end_of, IsWithin};
+
 use super::*;
 use std::test::Fail;
+
+// Fills two spans, of which `front` ends where or before `back` begins, and knows afterwards that the region has as
+// many cells as before, and as many of them used.
+fn fill_both(region: &mut Region, front: Span, back: Span)
+    requires in_turn { end_of front ≤ back.start }
+    requires within { IsWithin back region.old }
+    ensures cells { length region.new.cells ≡ length region.old.cells }
+    ensures used { region.new.used ≡ region.old.used }
+{
+    let _left = region.left();
+    let gap = back.start - front.start;
+    let both = region.get_mut(Span {
+        start: front.start,
+        len: gap + back.len,
+    });
+    let (low, high) = both.split_at_mut(gap);
+    low[..front.len].fill(7);
+    high.fill(8);
+}
 
 #[test]
 fn spans_of_a_region(rt: HostRuntime) -> Result<(), Fail> {
@@ -22,14 +44,17 @@ fn what_is_written_is_read(rt: HostRuntime) -> Result<(), Fail> {
     region.get_mut(second).fill(7);
     assert_eq!(rt; region.get(first), [0].as_slice());
     assert_eq!(rt; region.get(second), [7, 7].as_slice());
+    fill_both(&mut region, first, second);
+    assert_eq!(rt; region.get(first), [7].as_slice());
+    assert_eq!(rt; region.get(second), [8, 8].as_slice());
     let (of_second, of_first) = region.two_mut(second, first);
-    of_second.fill(8);
-    of_first.fill(9);
+    of_second.fill(5);
+    of_first.fill(6);
     region.reset();
     let first = region.cut(1).ok_or("no first span")?;
     let second = region.cut(2).ok_or("no second span")?;
-    assert_eq!(rt; region.get(first), [9].as_slice());
-    assert_eq!(rt; region.get(second), [8, 8].as_slice());
+    assert_eq!(rt; region.get(first), [6].as_slice());
+    assert_eq!(rt; region.get(second), [5, 5].as_slice());
     Ok(())
 }
 

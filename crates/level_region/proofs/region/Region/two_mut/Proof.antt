@@ -38,7 +38,7 @@ use Rattle.std.proofs.lemmas.List.{length-drop}
 use Rattle.level_region.proofs.Lent.{given_up, cut, cut_turned}
 use Rattle.level_region.proofs.Hull.{are_parts, in_order, turned}
 use Rattle.level_region.specs.declared.span.Span.{Span}
-use Rattle.level_region.specs.Block.{Block, IsWithin, AreApart, part_of, first_of, gap_of, hull_of, written_over}
+use Rattle.level_region.specs.Block.{Block, IsWithin, AreApart, part_of, front_of, gap_of, hull_of, written_over}
 use Rattle.level_region.specs.Lends.{LendsPart, LendsTwoParts}
 use Rattle.level_region.specs.contracts.region.Region.{the_row as R}
 use Rattle.level_region.specs.contracts.span.Span.{the_row as S}
@@ -149,14 +149,14 @@ two_mut_spec {M} 𝓤 𝓛 𝓜 𝓡 wired =
     sets ! (agg ! (and_then ! (get ! refl) (and_then ! (get_in ! (fld ! refl (stop !)) (sub ! 1 refl (whole !))) (no_more !)))) refl (tt, (tt, (record { fits = roomy.0 }, tt))) $
     -- [the cells; the lender follows; the token; nothing; x, three times; y, three times]
     nothing ! $ move ! (8 ∷ 0 ∷ []) $ fjoin ! $ move ! (5 ∷ 0 ∷ []) $ fjoin ! $ move ! (1 ∷ 0 ∷ []) $ fjoin ! $ move ! (2 ∷ 3 ∷ []) $ join ! $ join ! $
-    use0 𝓛 (raw (fact 𝓤 ((first_of x y).len ≤ length r.now))) (fact_i 𝓤 _ (emp 𝓤) (omega (arith, r_len))) $ move ! (1 ∷ 0 ∷ []) $
+    use0 𝓛 (raw (fact 𝓤 ((front_of x y).len ≤ length r.now))) (fact_i 𝓤 _ (emp 𝓤) (omega (arith, r_len))) $ move ! (1 ∷ 0 ∷ []) $
     let G₂ = triple_of 𝓛 one.signature (one.spec 𝓛 𝓜.mem 𝓡.returns) in
     let z₂ : G₂.Ghost = ((κs, qs, tt, (r, (x, (y, tt))), (mut_slice_vals r, (span_vals x, (span_vals y, tt)))), tt) in
     use2 𝓛 (raw (G₂.pre z₂)) (id⊢ 𝓤 _) $
     calls_at ! (framed 𝓤 𝓛.H 𝓜 (tables 𝓤 𝓛.H 𝓜 𝓡 𝓡.env)) G₂ (one-met.met 𝓤 𝓛 𝓜 𝓡 (code.calls-level_region::pairs::split_first 𝓡.env wired)) z₂
     (and_then ! (get ! refl) (and_then ! (get ! refl) (and_then ! (get ! refl) (no_more !)))) (λ v₂.
     use1 𝓛 (later (some (λ (p : MutBor (List ℤ) × MutBor (List ℤ)). ((‵ (flft κ q) ⊛ ‵ ftrue) ⊛ ‵ ((Tuple (Halves κ)).own_val p (v₂ ∷ []))) ⊛
-    some (λ (ws : Lasts one.ended κs (r, (x, (y, tt)))). ‵ (lasts one.ended κs (r, (x, (y, tt))) ws) ⊛ (‵ (Splits r.ghost_name p) ⊛ raw (fact 𝓤 (p.0.now ≡ take (first_of x y).len r.now)) ⊛ raw (fact 𝓤 (p.1.now ≡ drop_l (first_of x y).len r.now))))))) (id⊢ 𝓤 _) $
+    some (λ (ws : Lasts one.ended κs (r, (x, (y, tt)))). ‵ (lasts one.ended κs (r, (x, (y, tt))) ws) ⊛ (‵ (Splits r.ghost_name p) ⊛ raw (fact 𝓤 (p.0.now ≡ take (front_of x y).len r.now)) ⊛ raw (fact 𝓤 (p.1.now ≡ drop_l (front_of x y).len r.now))))))) (id⊢ 𝓤 _) $
     await ! tt $ pick ! (λ p. split ! $ split ! $ split ! $
     move ! (3 ∷ []) $ pick ! (λ w₂. split ! $ let_go ! $ split3 ! $ move ! (1 ∷ []) $ heard ! _ (λ low_is. move ! (1 ∷ []) $ heard ! _ (λ others_is.
     -- [the cells are the two joined; the token; nothing; the two; the lender follows; x, twice; y, twice]
@@ -172,7 +172,7 @@ two_mut_spec {M} 𝓤 𝓛 𝓜 𝓡 wired =
     sets ! (addr ! (from ! (fld ! refl (hop ! (look_in_at ! 6 (sub ! 0 refl (whole !))) (stop !))))) refl (tt, tt) $
     sets ! (agg ! (and_then ! (get ! refl) (and_then ! (get_in ! (fld ! refl (stop !)) (sub ! 1 refl (whole !))) (no_more !)))) refl (tt, (tt, (record { fits = others_room.0 }, tt))) $
     move ! (9 ∷ 1 ∷ []) $ fjoin ! $ move ! (7 ∷ 0 ∷ []) $ fjoin ! $ move ! (1 ∷ 0 ∷ []) $ fjoin ! $ move ! (3 ∷ 4 ∷ []) $ join ! $ join ! $
-    use0 𝓛 (raw (fact 𝓤 (gap_of x y ≤ length p.1.now))) (fact_i 𝓤 _ (emp 𝓤) (omega (arith, r_len, ap length others_is, length-drop (first_of x y).len r.now))) $ move ! (1 ∷ 0 ∷ []) $
+    use0 𝓛 (raw (fact 𝓤 (gap_of x y ≤ length p.1.now))) (fact_i 𝓤 _ (emp 𝓤) (omega (arith, r_len, ap length others_is, length-drop (front_of x y).len r.now))) $ move ! (1 ∷ 0 ∷ []) $
     let G₃ = triple_of 𝓛 two.signature (two.spec 𝓛 𝓜.mem 𝓡.returns) in
     let z₃ : G₃.Ghost = ((κs, qs, tt, (p.1, (x, (y, tt))), (mut_slice_vals p.1, (span_vals x, (span_vals y, tt)))), tt) in
     use2 𝓛 (raw (G₃.pre z₃)) (id⊢ 𝓤 _) $

@@ -4,8 +4,8 @@ use Rattle.std.specs.List.{list_all}
 use Rattle.std.proofs.lemmas.Bool.{cond-true, cond-false, eqb-true, and_parts, not-true, both_ways, or_cases, false_from_ne_true, false≢true}
 use Rattle.std.proofs.lemmas.List.{drop_at}
 use Rattle.text_lex.specs.Bytes.{is_script, has_quotes, has_breaks, has_comment, is_white, begins_joined, begins_substitution, has_substitution, is_plain, begins_bare, ends_bare}
-use Rattle.text_lex.specs.Piece.{Piece, White, Joined, Comment, Item, spelled, IsPiece, IsRefused, IsNested, IsBare, IsQuoted, IsComment, HasOpenQuote, HasOpenBrace, SubstitutesInQuotes, SubstitutesInBare}
-use Rattle.text_lex.specs.Splitting.{before_byte, before_brace, plain_of, quoted_piece, braced_piece, bare_piece, piece_at}
+use Rattle.text_lex.specs.Piece.{Piece, White, Joined, Comment, Item, spelled, IsPiece, IsRefusedWord, IsNested, IsBare, IsQuoted, IsComment, HasOpenQuote, HasOpenBrace, SubstitutesInQuotes, SubstitutesInBare}
+use Rattle.text_lex.specs.inside.Splitting.{before_byte, before_brace, plain_of, quoted_piece, braced_piece, bare_piece, piece_at}
 use Rattle.text_lex.specs.declared.word.Mode.{Mode}
 use Rattle.text_lex.specs.declared.word.Mode.TheVariants.{LefDef, Tcl, Lines}
 use Rattle.text_lex.specs.declared.word.Form.TheVariants.{Bare, Quoted, Braced, Break, Semicolon}
@@ -14,7 +14,7 @@ use Rattle.text_lex.specs.declared.word.LexKind.TheVariants.{BadString, Substitu
 use Rattle.text_lex.proofs.Finding.{before_byte-some, before_byte-none, before_brace-some, before_brace-none, line_of-append, plain_of-append}
 use Rattle.text_lex.proofs.Pieces.{BeginsBare, and_swap}
 
--- Behind the end of a bare word no plain byte stands. (The tests of its first byte.)
+-- After the end of a bare word no plain byte stands. (The tests of its first byte.)
 not_plain_from_tests : (white feed script semicolon dollar bracket backslash returns : Bool) →
     (white || feed || (script && (semicolon || (backslash && returns)))) ≡ true →
     (not white && not feed && not (script && (semicolon || dollar || bracket || backslash))) ≡ false
@@ -33,7 +33,7 @@ not_plain_from_end mode (x ∷ xs) h =
     inr (not_plain_from_tests (is_white mode x) (x == 10) (is_script mode) (x == 59) (x == 36) (x == 91) (x == 92)
     (get_or xs 0 0 == 10 || (get_or xs 0 0 == 13 && get_or xs 1 0 == 10)) h)
 
--- what is substituted is not plain
+-- What is substituted is not plain.
 not_plain_from_substitution : (white feed semicolon dollar bracket backslash joined : Bool) →
     (dollar || bracket || (backslash && not joined)) ≡ true →
     (not white && not feed && not (true && (semicolon || dollar || bracket || backslash))) ≡ false
@@ -50,7 +50,7 @@ substitution_not_plain [] h = absurd (cc)
 substitution_not_plain (x ∷ xs) h =
     not_plain_from_substitution (is_white Tcl x) (x == 10) (x == 59) (x == 36) (x == 91) (x == 92) (begins_joined (x ∷ xs)) h
 
--- a bare word does not end where something is substituted
+-- A bare word does not end where something is substituted.
 ends_apart : (x : ℕ) (xs : List ℕ) → ends_bare Tcl (x ∷ xs) ≡ true → begins_substitution (x ∷ xs) ≡ true → ⊥
 ends_apart x xs ends h =
     let at : (n : ℕ) → (x == n) ≡ true → ends_bare Tcl (n ∷ xs) ≡ true = λ n e. ap (λ y. ends_bare Tcl (y ∷ xs)) (sym (eqb-true x n e)) ∙ ends in
@@ -67,7 +67,7 @@ no_substitution_at_end Tcl [] h = refl
 no_substitution_at_end Tcl (x ∷ xs) h = false_from_ne_true _ (λ e. ends_apart x xs h e)
 no_substitution_at_end Lines more h = refl
 
--- a plain byte is no `;`, and begins no joined line
+-- A plain byte is no `;`, and begins no joined line.
 semicolon_not_plain : (script semicolon dollar bracket backslash : Bool) → (script && (semicolon || dollar || bracket || backslash)) ≡ false → (script && semicolon) ≡ false
 semicolon_not_plain false semicolon dollar bracket backslash h = refl
 semicolon_not_plain true true dollar bracket backslash h = absurd (cc)
@@ -111,7 +111,7 @@ tests_from_substitution opens b bs h =
     subst P (sym is) (record { white = refl; comment = refl; feed = refl; quote = refl; joined = ap (λ y. begins_joined (y ∷ bs)) (sym is) ∙ not-true _ parts.1; semicolon = refl; brace = refl }))
     (or_cases (b == 36 || b == 91) _ h)
 
--- what is computed where no other piece begins
+-- What is computed where no other piece begins.
 at_bare : (mode : Mode) (opens : Bool) (b : ℕ) (bs : List ℕ) → BeginsBare mode opens b bs → piece_at mode opens b bs ≡ bare_piece mode (b ∷ bs)
 unfolding piece_at
 at_bare mode opens b bs t =
@@ -128,7 +128,7 @@ bare_is mode word more plain ends =
     let H : List ℕ → Result Piece LexKind = λ m. cond (is_script mode && begins_substitution m) (Err Substitution) (Ok (Item Bare word)) in
     ap G found ∙ ap H (drop_at word more (length word) refl)
 
--- the piece is computed at its first byte
+-- The piece is computed at its first byte.
 pub record IsComputed (mode : Mode) (opens : Bool) (piece : Piece) (more : List ℕ) : Type 0 where
   pub first : ℕ
   pub rest : List ℕ
@@ -164,7 +164,7 @@ semicolon_computed : (opens : Bool) (more : List ℕ) → IsComputed Tcl opens (
 unfolding piece_at
 semicolon_computed opens more = record { first = 59; rest = []; is = refl; gives = refl }
 
--- what is computed at a quote and at a brace
+-- What is computed at a quote and at a brace.
 at_quote : (mode : Mode) (opens : Bool) (bs : List ℕ) → has_quotes mode ≡ true → piece_at mode opens 34 bs ≡ quoted_piece mode (before_byte 34 bs)
 unfolding piece_at
 at_quote mode opens bs h = cond-true (has_quotes mode) _ _ h
@@ -229,7 +229,7 @@ piece_computed Tcl opens (Item Semicolon text) more h =
     subst P (sym h.1) (semicolon_computed opens more)
 piece_computed Lines opens (Item Semicolon text) more h = absurd (false≢true h.0)
 
--- the refusal is computed at the word's first byte
+-- The refusal is computed at the word's first byte.
 pub record IsRefusalComputed (mode : Mode) (opens : Bool) (kind : LexKind) (text : List ℕ) : Type 0 where
   pub first : ℕ
   pub rest : List ℕ
@@ -285,7 +285,7 @@ in_bare_computed opens text h =
     let begins = ap (λ x. begins_bare Tcl opens (get_or x 0 0)) (sym h.inside.2) ∙ h.begins in
     subst P (sym h.inside.2) (in_bare_from opens h.inside.0 h.inside.1 begins h.inside.3 h.inside.4)
 
-pub refusal_computed : (mode : Mode) (opens : Bool) (kind : LexKind) (text : List ℕ) → IsRefused mode opens kind text → IsRefusalComputed mode opens kind text
+pub refusal_computed : (mode : Mode) (opens : Bool) (kind : LexKind) (text : List ℕ) → IsRefusedWord mode opens kind text → IsRefusalComputed mode opens kind text
 refusal_computed LefDef opens BadString text h = ⊎_elim (λ q. open_quote_computed LefDef opens text q) (λ b. absurd (false≢true b.script)) h
 refusal_computed Tcl opens BadString text h = ⊎_elim (λ q. open_quote_computed Tcl opens text q) (λ b. open_brace_computed opens text b) h
 refusal_computed Lines opens BadString text h = ⊎_elim (λ q. absurd (false≢true q.quotes)) (λ b. absurd (false≢true b.script)) h

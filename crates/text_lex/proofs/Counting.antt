@@ -11,7 +11,7 @@ pub count_of-append : (byte : ℕ) (xs ys : List ℕ) → count_of byte (xs ++ y
 count_of-append byte [] ys = omega arith
 count_of-append byte (x ∷ xs) ys = omega (arith, count_of-append byte xs ys)
 
--- one byte more
+-- One byte more.
 pub count_of-more : (byte : ℕ) (text : List ℕ) (i : ℕ) → i < length text → count_of byte (take (i + 1) text) ≡ count_of byte (take i text) + cond (get_or text i 0 == byte) 1 0
 count_of-more byte text i h =
     ap (count_of byte) (take_more text i 0 h) ∙ count_of-append byte (take i text) (get_or text i 0 ∷ []) ∙ omega arith
@@ -24,7 +24,7 @@ count_of-no byte text i h e =
     let none : ◌≡◌ {A = ℕ} (cond (get_or text i 0 == byte) 1 0) 0 = cond-false (get_or text i 0 == byte) 1 0 (ne_eqb _ byte e) in
     omega (arith, count_of-more byte text i h, none)
 
--- as std counts
+-- As std counts.
 pub count_by-count_of : (byte : ℕ) (text : List ℕ) → count_by (λ b. b == byte) text ≡ count_of byte text
 count_by-count_of byte [] = refl
 count_by-count_of byte (x ∷ xs) =
@@ -38,7 +38,7 @@ count_of-le-length byte (x ∷ xs) = at (x == byte) (count_of-le-length byte xs)
     at true h = omega arith
     at false h = omega arith
 
--- in no front with up to `len` bytes are more braces closed than opened
+-- In no front with up to `len` bytes are more braces closed than opened.
 abbrev pub ClosesNoneUpTo : List ℕ → ℕ → Type 0
 ClosesNoneUpTo text len = (n : ℕ) → n ≤ len → count_of 125 (take n text) ≤ count_of 123 (take n text)
 
@@ -58,7 +58,7 @@ closes_none_more text i h last n within =
     let P : ℕ → Type 0 = λ m. count_of 125 (take m text) ≤ count_of 123 (take m text) in
     ⊎_elim (λ below. h n (omega arith)) (λ above. let e : i + 1 ≡ n = omega arith in subst P e last) (cases_lt n (i + 1))
 
--- how many braces are open behind the first bytes
+-- How many braces are open after the first bytes.
 pub record HasOpen (text : List ℕ) (i open_braces : ℕ) : Type 0 where
   pub few : open_braces ≤ i
   pub open_now : open_braces + count_of 125 (take i text) ≡ count_of 123 (take i text)

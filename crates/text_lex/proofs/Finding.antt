@@ -3,10 +3,10 @@ use Rattle.std.proofs.Common.{◌≡◌, ◌≢◌, ◌⊎◌, inl, inr, ⊎_eli
 use Rattle.std.specs.List.{list_all}
 use Rattle.std.proofs.lemmas.Bool.{cond_both, cond-true, cond-false, cases_Bool, eqb-true, eqb-false, eq-eqb, and_parts, and_from}
 use Rattle.text_lex.specs.Bytes.{count_of, is_plain}
-use Rattle.text_lex.specs.Splitting.{behind_byte, before_byte, before_brace, line_of, plain_of}
+use Rattle.text_lex.specs.inside.Splitting.{after_byte, before_byte, before_brace, line_of, plain_of}
 use Rattle.text_lex.specs.declared.word.Mode.{Mode}
 
--- a count that is 0 counts the first one not
+-- A count that is 0 counts the first one not.
 pub zero_count : (t : Bool) (n : ℕ) → cond t 1 0 + n ≡ 0 → (t ≡ false) × (n ≡ 0)
 zero_count true n h = absurd (omega arith)
 zero_count false n h = (refl, omega arith)
@@ -15,38 +15,38 @@ pub zero_counts : (t : Bool) (n : ℕ) → t ≡ false → n ≡ 0 → cond t 1 
 zero_counts true n e h = absurd (cc)
 zero_counts false n e h = omega arith
 
--- what was looked for is the text before the first byte of a kind, or there is none
+-- What was looked for is the text before the first byte of a kind, or there is none.
 abbrev pub FoundByte : ℕ → List ℕ → Option (List ℕ) → Type 0
 FoundByte byte text None = count_of byte text ≡ 0
 FoundByte byte text (Some inside) = (more : List ℕ) × (text ≡ inside ++ byte ∷ more) × (count_of byte inside ≡ 0)
 
-found_byte_behind : (byte b : ℕ) (bs : List ℕ) (found : Option (List ℕ)) → (b == byte) ≡ false → FoundByte byte bs found → FoundByte byte (b ∷ bs) (behind_byte b found)
-found_byte_behind byte b bs None e h = zero_counts (b == byte) _ e h
-found_byte_behind byte b bs (Some inside) e h = (h.0, ap (λ xs. b ∷ xs) h.1, zero_counts (b == byte) _ e h.2)
+found_byte_after : (byte b : ℕ) (bs : List ℕ) (found : Option (List ℕ)) → (b == byte) ≡ false → FoundByte byte bs found → FoundByte byte (b ∷ bs) (after_byte b found)
+found_byte_after byte b bs None e h = zero_counts (b == byte) _ e h
+found_byte_after byte b bs (Some inside) e h = (h.0, ap (λ xs. b ∷ xs) h.1, zero_counts (b == byte) _ e h.2)
 
 pub found_byte : (byte : ℕ) (text : List ℕ) → FoundByte byte text (before_byte byte text)
 unfolding before_byte
 found_byte byte [] = refl
 found_byte byte (b ∷ bs) =
-    cond_both (b == byte) (Some []) (behind_byte b (before_byte byte bs)) (FoundByte byte (b ∷ bs))
+    cond_both (b == byte) (Some []) (after_byte b (before_byte byte bs)) (FoundByte byte (b ∷ bs))
     (λ e. (bs, ap (λ x. x ∷ bs) (eqb-true b byte e), refl))
-    (λ e. found_byte_behind byte b bs (before_byte byte bs) e (found_byte byte bs))
+    (λ e. found_byte_after byte b bs (before_byte byte bs) e (found_byte byte bs))
 
 pub before_byte-some : (byte : ℕ) (inside more : List ℕ) → count_of byte inside ≡ 0 → before_byte byte (inside ++ byte ∷ more) ≡ Some inside
 unfolding before_byte
 before_byte-some byte [] more h = cond-true (byte == byte) _ _ (eq-eqb byte byte refl)
 before_byte-some byte (b ∷ bs) more h =
     let parts = zero_count (b == byte) (count_of byte bs) h in
-    cond-false (b == byte) _ _ parts.0 ∙ ap (behind_byte b) (before_byte-some byte bs more parts.1)
+    cond-false (b == byte) _ _ parts.0 ∙ ap (after_byte b) (before_byte-some byte bs more parts.1)
 
 pub before_byte-none : (byte : ℕ) (text : List ℕ) → count_of byte text ≡ 0 → before_byte byte text ≡ None
 unfolding before_byte
 before_byte-none byte [] h = refl
 before_byte-none byte (b ∷ bs) h =
     let parts = zero_count (b == byte) (count_of byte bs) h in
-    cond-false (b == byte) _ _ parts.0 ∙ ap (behind_byte b) (before_byte-none byte bs parts.1)
+    cond-false (b == byte) _ _ parts.0 ∙ ap (after_byte b) (before_byte-none byte bs parts.1)
 
--- in no front are more braces closed than opened, `open_braces` before it among these
+-- In no front are more braces closed than opened, `open_braces` before it among these.
 abbrev pub Fronts : ℕ → List ℕ → Type 0
 Fronts open_braces text = (n : ℕ) → count_of 125 (take n text) ≤ open_braces + count_of 123 (take n text)
 
@@ -54,9 +54,9 @@ fronts_none : (d : ℕ) → Fronts d []
 fronts_none d zero = omega arith
 fronts_none d (suc n) = omega arith
 
-fronts_behind : (d e b : ℕ) (bs : List ℕ) → cond (b == 125) 1 0 + e ≤ d + cond (b == 123) 1 0 → Fronts e bs → Fronts d (b ∷ bs)
-fronts_behind d e b bs h fronts zero = omega arith
-fronts_behind d e b bs h fronts (suc n) = omega (arith, fronts n)
+fronts_after : (d e b : ℕ) (bs : List ℕ) → cond (b == 125) 1 0 + e ≤ d + cond (b == 123) 1 0 → Fronts e bs → Fronts d (b ∷ bs)
+fronts_after d e b bs h fronts zero = omega arith
+fronts_after d e b bs h fronts (suc n) = omega (arith, fronts n)
 
 fronts_before : (d e b : ℕ) (bs : List ℕ) → d + cond (b == 123) 1 0 ≤ cond (b == 125) 1 0 + e → Fronts d (b ∷ bs) → Fronts e bs
 fronts_before d e b bs h fronts n = omega (arith, fronts (suc n))
@@ -65,12 +65,12 @@ abbrev pub FoundBrace : ℕ → List ℕ → Option (List ℕ) → Type 0
 FoundBrace d text None = Fronts d text
 FoundBrace d text (Some inside) = (more : List ℕ) × (text ≡ inside ++ 125 ∷ more) × Fronts d inside × (count_of 125 inside ≡ d + count_of 123 inside)
 
-found_brace_behind : (d e b : ℕ) (bs : List ℕ) (found : Option (List ℕ)) → cond (b == 125) 1 0 + e ≡ d + cond (b == 123) 1 0 → FoundBrace e bs found → FoundBrace d (b ∷ bs) (behind_byte b found)
-found_brace_behind d e b bs None h f = fronts_behind d e b bs (omega arith) f
-found_brace_behind d e b bs (Some inside) h f =
-    (f.0, ap (λ xs. b ∷ xs) f.1, fronts_behind d e b inside (omega arith) f.2, omega (arith, f.3))
+found_brace_after : (d e b : ℕ) (bs : List ℕ) (found : Option (List ℕ)) → cond (b == 125) 1 0 + e ≡ d + cond (b == 123) 1 0 → FoundBrace e bs found → FoundBrace d (b ∷ bs) (after_byte b found)
+found_brace_after d e b bs None h f = fronts_after d e b bs (omega arith) f
+found_brace_after d e b bs (Some inside) h f =
+    (f.0, ap (λ xs. b ∷ xs) f.1, fronts_after d e b inside (omega arith) f.2, omega (arith, f.3))
 
--- the count of one byte
+-- The count of one byte.
 counts_yes : (b n : ℕ) → (b == n) ≡ true → ◌≡◌ {A = ℕ} (cond (b == n) 1 0) 1
 counts_yes b n e = cond-true (b == n) 1 0 e
 
@@ -85,12 +85,12 @@ unfolding before_brace
 found_brace d [] = fronts_none d
 found_brace d (b ∷ bs) =
     cond_both (b == 123) _ _ (FoundBrace d (b ∷ bs))
-    (λ opens. found_brace_behind d (suc d) b bs _ (omega (arith, counts_yes b 123 opens, counts_other b 123 125 refl opens)) (found_brace (suc d) bs))
+    (λ opens. found_brace_after d (suc d) b bs _ (omega (arith, counts_yes b 123 opens, counts_other b 123 125 refl opens)) (found_brace (suc d) bs))
     (λ e. cond_both (b == 125) _ _ (FoundBrace d (b ∷ bs))
     (λ closes. cond_both (d == 0) _ _ (FoundBrace d (b ∷ bs))
     (λ none. (bs, ap (λ x. x ∷ bs) (eqb-true b 125 closes), fronts_none d, sym (eqb-true d 0 none) ∙ omega arith))
-    (λ some. found_brace_behind d (d - 1) b bs _ (let ne : d ≢ 0 = eqb-false d 0 some in omega (arith, counts_yes b 125 closes, counts_no b 123 e)) (found_brace (d - 1) bs)))
-    (λ f. found_brace_behind d d b bs _ (omega (arith, counts_no b 125 f, counts_no b 123 e)) (found_brace d bs)))
+    (λ some. found_brace_after d (d - 1) b bs _ (let ne : d ≢ 0 = eqb-false d 0 some in omega (arith, counts_yes b 125 closes, counts_no b 123 e)) (found_brace (d - 1) bs)))
+    (λ f. found_brace_after d d b bs _ (omega (arith, counts_no b 125 f, counts_no b 123 e)) (found_brace d bs)))
 
 pub before_brace-some : (d : ℕ) (inside more : List ℕ) → Fronts d inside → count_of 125 inside ≡ d + count_of 123 inside → before_brace d (inside ++ 125 ∷ more) ≡ Some inside
 unfolding before_brace
@@ -100,7 +100,7 @@ before_brace-some d (b ∷ bs) more fronts each =
     cond_both (b == 123) _ _ P
     (λ opens.
     let f : Fronts (suc d) bs = fronts_before d (suc d) b bs (omega (arith, counts_yes b 123 opens, counts_other b 123 125 refl opens)) fronts in
-    ap (behind_byte b) (before_brace-some (suc d) bs more f (omega (arith, each, counts_yes b 123 opens, counts_other b 123 125 refl opens))))
+    ap (after_byte b) (before_brace-some (suc d) bs more f (omega (arith, each, counts_yes b 123 opens, counts_other b 123 125 refl opens))))
     (λ e. cond_both (b == 125) _ _ P
     (λ closes.
     let some : 1 ≤ d = omega (arith, fronts 1, counts_yes b 125 closes, counts_no b 123 e) in
@@ -108,10 +108,10 @@ before_brace-some d (b ∷ bs) more fronts each =
     (λ none. absurd (omega (arith, eqb-true d 0 none)))
     (λ _.
     let f : Fronts (d - 1) bs = fronts_before d (d - 1) b bs (omega (arith, counts_yes b 125 closes, counts_no b 123 e)) fronts in
-    ap (behind_byte b) (before_brace-some (d - 1) bs more f (omega (arith, each, counts_yes b 125 closes, counts_no b 123 e)))))
+    ap (after_byte b) (before_brace-some (d - 1) bs more f (omega (arith, each, counts_yes b 125 closes, counts_no b 123 e)))))
     (λ g.
     let f : Fronts d bs = fronts_before d d b bs (omega (arith, counts_no b 125 g, counts_no b 123 e)) fronts in
-    ap (behind_byte b) (before_brace-some d bs more f (omega (arith, each, counts_no b 125 g, counts_no b 123 e)))))
+    ap (after_byte b) (before_brace-some d bs more f (omega (arith, each, counts_no b 125 g, counts_no b 123 e)))))
 
 pub before_brace-none : (d : ℕ) (text : List ℕ) → Fronts d text → before_brace d text ≡ None
 unfolding before_brace
@@ -121,7 +121,7 @@ before_brace-none d (b ∷ bs) fronts =
     cond_both (b == 123) _ _ P
     (λ opens.
     let f : Fronts (suc d) bs = fronts_before d (suc d) b bs (omega (arith, counts_yes b 123 opens, counts_other b 123 125 refl opens)) fronts in
-    ap (behind_byte b) (before_brace-none (suc d) bs f))
+    ap (after_byte b) (before_brace-none (suc d) bs f))
     (λ e. cond_both (b == 125) _ _ P
     (λ closes.
     let some : 1 ≤ d = omega (arith, fronts 1, counts_yes b 125 closes, counts_no b 123 e) in
@@ -129,12 +129,12 @@ before_brace-none d (b ∷ bs) fronts =
     (λ none. absurd (omega (arith, eqb-true d 0 none)))
     (λ _.
     let f : Fronts (d - 1) bs = fronts_before d (d - 1) b bs (omega (arith, counts_yes b 125 closes, counts_no b 123 e)) fronts in
-    ap (behind_byte b) (before_brace-none (d - 1) bs f)))
+    ap (after_byte b) (before_brace-none (d - 1) bs f)))
     (λ g.
     let f : Fronts d bs = fronts_before d d b bs (omega (arith, counts_no b 125 g, counts_no b 123 e)) fronts in
-    ap (behind_byte b) (before_brace-none d bs f)))
+    ap (after_byte b) (before_brace-none d bs f)))
 
--- the first line, and what stands behind it
+-- The first line, and what stands after it.
 pub record FoundLine (text : List ℕ) : Type 0 where
   pub more : List ℕ
   pub is : text ≡ line_of text ++ more
@@ -168,7 +168,7 @@ line_of-append (b ∷ bs) more h ends =
     let parts = zero_count (b == 10) (count_of 10 bs) h in
     cond-false (b == 10) _ _ parts.0 ∙ ap (λ x. b ∷ x) (line_of-append bs more parts.1 ends)
 
--- the plain bytes in front, and what stands behind them
+-- The plain bytes in front, and what stands after them.
 pub record FoundPlain (mode : Mode) (text : List ℕ) : Type 0 where
   pub more : List ℕ
   pub is : text ≡ plain_of mode text ++ more

@@ -3,33 +3,33 @@ use Rattle.std.proofs.Common.{◌≡◌, ◌⊎◌, ⊎_elim, sym, ap, ◌∙◌
 use Rattle.std.proofs.lemmas.Bool.{both_ways, and_from}
 use Rattle.outside.specs.declared.place.Place.{Place}
 use Rattle.text_lex.specs.Bytes.{is_script, has_comment, is_white, begins_joined}
-use Rattle.text_lex.specs.Piece.{Piece, White, Joined, Comment, Item, IsRefused}
+use Rattle.text_lex.specs.Piece.{Piece, White, Joined, Comment, Item, IsRefusedWord}
 use Rattle.text_lex.specs.Split.{Split, IsAtEnd, IsAtRefusal, next_place}
-use Rattle.text_lex.specs.InFront.{BeginsWithWord}
-use Rattle.text_lex.specs.Splitting.{words_left, left_of, piece_at}
+use Rattle.text_lex.specs.inside.Front.{BeginsWithWord}
+use Rattle.text_lex.specs.inside.Splitting.{words_left, words_after, piece_at}
 use Rattle.text_lex.specs.declared.word.Mode.{Mode}
 use Rattle.text_lex.specs.declared.word.LexKind.{LexKind}
 use Rattle.text_lex.specs.declared.word.LexError.{LexError}
 use Rattle.text_lex.proofs.Pieces.{Tells, piece_tells}
 use Rattle.text_lex.proofs.Made.{left_end, left_word, left_refused}
 
--- what is left, behind the gap in front
-pub left_behind_gap : (mode : Mode) (opens : Bool) (place : Place) (text : List ℕ) (refusal : Option LexError) (now : Split) (start : Place) (rest : List ℕ) →
-    left_of mode opens place text refusal ≡ now → refusal ≡ None → words_left mode opens start rest ≡ words_left mode opens place text → now ≡ words_left mode opens start rest
-left_behind_gap mode opens place text refusal now start rest is none words = sym is ∙ (ap (left_of mode opens place text) none ∙ sym words)
+-- What is left, after the gap in front.
+pub left_after_gap : (mode : Mode) (opens : Bool) (place : Place) (text : List ℕ) (refusal : Option LexError) (now : Split) (start : Place) (rest : List ℕ) →
+    words_after mode opens place text refusal ≡ now → refusal ≡ None → words_left mode opens start rest ≡ words_left mode opens place text → now ≡ words_left mode opens start rest
+left_after_gap mode opens place text refusal now start rest is none words = sym is ∙ (ap (words_after mode opens place text) none ∙ sym words)
 
 pub at_end : (mode : Mode) (opens : Bool) (place : Place) (rest : List ℕ) (now : Split) → now ≡ words_left mode opens place rest → rest ≡ [] → IsAtEnd now
 at_end mode opens place rest now is ends =
     let all = is ∙ (ap (words_left mode opens place) ends ∙ left_end mode opens place) in
     record { words = ap (λ (s : Split). s.words) all; refusal = ap (λ (s : Split). s.refusal) all }
 
-pub at_refusal : (mode : Mode) (opens : Bool) (place : Place) (rest : List ℕ) (now : Split) (kind : LexKind) → now ≡ words_left mode opens place rest → IsRefused mode opens kind rest →
+pub at_refusal : (mode : Mode) (opens : Bool) (place : Place) (rest : List ℕ) (now : Split) (kind : LexKind) → now ≡ words_left mode opens place rest → IsRefusedWord mode opens kind rest →
     IsAtRefusal now (record { place = place; kind = kind }) × (◌≡◌ {A = Split} (record { words = []; last = place; refusal = Some kind }) now)
 at_refusal mode opens place rest now kind is h =
     let all = is ∙ left_refused mode opens place kind rest h in
     (record { words = ap (λ (s : Split). s.words) all; refusal = ap (λ (s : Split). s.refusal) all; place = ap (λ (s : Split). s.last) all }, sym all)
 
--- the place of the word in front, where no gap stands before it
+-- The place of the word in front, where no gap stands before it.
 not_gap_white : (mode : Mode) (opens : Bool) (rest : List ℕ) (byte : ℕ) (more : List ℕ) → BeginsWithWord mode opens rest → rest ≡ byte ∷ more → is_white mode byte ≡ true → ⊥
 not_gap_white mode opens rest byte more word is h =
     let some : 0 < length rest = omega (arith, ap length is) in

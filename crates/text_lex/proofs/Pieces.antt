@@ -3,8 +3,8 @@ use Rattle.std.proofs.Common.{◌≡◌, ◌⊎◌, inl, inr, ⊎_elim, refl, sy
 use Rattle.std.proofs.lemmas.Bool.{cond_both, cond-true, cond-false, cases_Bool, eqb-true, and_parts, and_from, both_ways}
 use Rattle.std.proofs.lemmas.List.{drop_at}
 use Rattle.text_lex.specs.Bytes.{is_script, has_quotes, has_breaks, has_comment, is_white, begins_joined, begins_substitution, has_substitution, is_plain, begins_bare, ends_bare}
-use Rattle.text_lex.specs.Piece.{Piece, Comment, Item, spelled, IsPiece, IsRefused}
-use Rattle.text_lex.specs.Splitting.{line_of, plain_of, quoted_piece, braced_piece, bare_piece, joined_piece, piece_at}
+use Rattle.text_lex.specs.Piece.{Piece, Comment, Item, spelled, IsPiece, IsRefusedWord}
+use Rattle.text_lex.specs.inside.Splitting.{line_of, plain_of, quoted_piece, braced_piece, bare_piece, joined_piece, piece_at}
 use Rattle.text_lex.specs.declared.word.Mode.{Mode}
 use Rattle.text_lex.specs.declared.word.Mode.TheVariants.{LefDef, Tcl, Lines}
 use Rattle.text_lex.specs.declared.word.Form.TheVariants.{Bare, Quoted, Break, Semicolon}
@@ -12,12 +12,12 @@ use Rattle.text_lex.specs.declared.word.LexKind.{LexKind}
 use Rattle.text_lex.specs.declared.word.LexKind.TheVariants.{Substitution}
 use Rattle.text_lex.proofs.Finding.{FoundByte, found_byte, FoundBrace, found_brace, found_line, found_plain}
 
--- a text begins with this piece, or its first word is refused
+-- A text begins with this piece, or its first word is refused.
 abbrev pub Tells : Mode → Bool → List ℕ → Result Piece LexKind → Type 0
 Tells mode opens text (Ok piece) = (more : List ℕ) × (text ≡ spelled piece ++ more) × IsPiece mode opens piece more
-Tells mode opens text (Err kind) = IsRefused mode opens kind text
+Tells mode opens text (Err kind) = IsRefusedWord mode opens kind text
 
--- a line feed that is not white ends a line or a command
+-- A line feed that is not white ends a line or a command.
 breaks_if_not_white : (mode : Mode) → is_white mode 10 ≡ false → has_breaks mode ≡ true
 breaks_if_not_white LefDef h = sym h
 breaks_if_not_white Tcl h = refl
@@ -65,7 +65,7 @@ tells_semicolon mode opens b bs h =
     let parts = and_parts (is_script mode) _ h in
     (bs, ap (λ x. x ∷ bs) (eqb-true b 59 parts.1), (parts.0, refl))
 
--- what a text begins with, from its first bytes
+-- What a text begins with, from its first bytes.
 first_is : (n : ℕ) (bs : List ℕ) → 0 < n → get_or bs 0 0 ≡ n → (more : List ℕ) × (bs ≡ n ∷ more)
 first_is n [] some e = absurd (omega (arith, e))
 first_is n (x ∷ xs) some e = (xs, ap (λ y. y ∷ xs) e)
@@ -74,7 +74,7 @@ first_two : (n m : ℕ) (bs : List ℕ) → 0 < n → 0 < m → get_or bs 0 0 �
 first_two n m [] some one e f = absurd (omega (arith, e))
 first_two n m (x ∷ xs) some one e f = let rest = first_is m xs one f in (rest.0, ap (λ ys. x ∷ ys) rest.1 ∙ ap (λ y. y ∷ m ∷ rest.0) e)
 
--- the bytes of a joined line behind its backslash
+-- The bytes of a joined line after its backslash.
 abbrev pub JoinedBytes : List ℕ → List ℕ → Type 0
 JoinedBytes bs bytes = (more : List ℕ) × (bs ≡ bytes ++ more) × ((bytes ≡ 10 ∷ []) ⊎ (bytes ≡ 13 ∷ 10 ∷ []))
 
@@ -103,7 +103,7 @@ tells_joined mode opens b bs h =
     let bytes = joined_bytes bs joined.1 in
     (bytes.0, ap (λ x. x ∷ bs) (eqb-true b 92 joined.0) ∙ ap (λ xs. 92 ∷ xs) bytes.1, (parts.0, bytes.2))
 
--- Behind plain bytes stands the end of a bare word, or something that is substituted. (a to k are the tests of its first byte.)
+-- After plain bytes stands the end of a bare word, or something that is substituted. (a to k are the tests of its first byte.)
 ends_from_tests : (white feed script semicolon dollar bracket backslash joined : Bool) →
     (not white && not feed && not (script && (semicolon || dollar || bracket || backslash))) ≡ false →
     (script && (dollar || bracket || (backslash && not joined))) ≡ false → (white || feed || (script && (semicolon || joined))) ≡ true
@@ -123,7 +123,7 @@ ends_from_plain mode (x ∷ xs) ends h =
     ends_from_tests (is_white mode x) (x == 10) (is_script mode) (x == 59) (x == 36) (x == 91) (x == 92) (begins_joined (x ∷ xs))
     (⊎_elim (λ e. cc) (λ e. e) ends) h
 
--- the tests by which a byte begins no other piece than a bare word
+-- The tests by which a byte begins no other piece than a bare word.
 pub record BeginsBare (mode : Mode) (opens : Bool) (b : ℕ) (bs : List ℕ) : Type 0 where
   pub white : is_white mode b ≡ false
   pub comment : (b == 35 && has_comment mode opens) ≡ false
@@ -143,7 +143,7 @@ pub begins_from_tests : (mode : Mode) (opens : Bool) (b : ℕ) (bs : List ℕ) �
 begins_from_tests mode opens b bs t =
     and_from _ _ (and_from _ _ (ap not t.comment) (ap not t.quote)) (ap not (and_swap (b == 123) (is_script mode) ∙ t.brace))
 
--- a byte that begins a bare word and is not plain begins a substitution
+-- A byte that begins a bare word and is not plain begins a substitution.
 pub substitution_from_tests : (white feed script semicolon dollar bracket backslash returns : Bool) →
     white ≡ false → feed ≡ false → (script && semicolon) ≡ false → (script && (backslash && returns)) ≡ false →
     (not white && not feed && not (script && (semicolon || dollar || bracket || backslash))) ≡ false →
@@ -158,7 +158,7 @@ substitution_from_tests false false true false false false true true w f s j h =
 substitution_from_tests false false true false false false true false w f s j h = refl
 substitution_from_tests false false true false false false false returns w f s j h = sym h
 
--- the plain bytes in front, where the first byte is plain
+-- The plain bytes in front, where the first byte is plain.
 plain_of-yes : (mode : Mode) (b : ℕ) (bs : List ℕ) → is_plain mode b ≡ true → plain_of mode (b ∷ bs) ≡ b ∷ plain_of mode bs
 unfolding plain_of
 plain_of-yes mode b bs e = cond-true (is_plain mode b) _ _ e
@@ -172,14 +172,14 @@ tells_bare mode opens b bs t =
     let word = plain_of mode (b ∷ bs) in
     let found = found_plain mode (b ∷ bs) in
     let is : b ∷ bs ≡ word ++ found.more = found.is in
-    let behind : drop (length word) (b ∷ bs) ≡ found.more = ap (drop (length word)) is ∙ drop_at word found.more (length word) refl in
+    let after : drop (length word) (b ∷ bs) ≡ found.more = ap (drop (length word)) is ∙ drop_at word found.more (length word) refl in
     let begins = begins_from_tests mode opens b bs t in
     cond_both (is_script mode && begins_substitution (drop (length word) (b ∷ bs))) (Err Substitution) (Ok (Item Bare word)) (Tells mode opens (b ∷ bs))
     (λ e.
     let parts = and_parts (is_script mode) _ e in
-    inr (record { script = parts.0; begins = begins; inside = (word, found.more, is, found.plain, ap begins_substitution (sym behind) ∙ parts.1) }))
+    inr (record { script = parts.0; begins = begins; inside = (word, found.more, is, found.plain, ap begins_substitution (sym after) ∙ parts.1) }))
     (λ e.
-    let none : (is_script mode && begins_substitution found.more) ≡ false = ap (λ x. is_script mode && begins_substitution x) (sym behind) ∙ e in
+    let none : (is_script mode && begins_substitution found.more) ≡ false = ap (λ x. is_script mode && begins_substitution x) (sym after) ∙ e in
     ⊎_elim
     (λ yes_plain.
     let w : word ≡ b ∷ plain_of mode bs = plain_of-yes mode b bs yes_plain in (
@@ -194,13 +194,13 @@ tells_bare mode opens b bs t =
     ))
     (λ not_plain. absurd (
     let w : word ≡ [] = plain_of-no mode b bs not_plain in
-    let all : found.more ≡ b ∷ bs = sym behind ∙ ap (λ x. drop (length x) (b ∷ bs)) w in
+    let all : found.more ≡ b ∷ bs = sym after ∙ ap (λ x. drop (length x) (b ∷ bs)) w in
     let yes_substitution = substitution_from_tests (is_white mode b) (b == 10) (is_script mode) (b == 59) (b == 36) (b == 91) (b == 92)
     (get_or bs 0 0 == 10 || (get_or bs 0 0 == 13 && get_or bs 1 0 == 10)) t.white t.feed t.semicolon t.joined not_plain in
     both_ways _ none (ap (λ x. is_script mode && begins_substitution x) all ∙ yes_substitution)))
     (cases_Bool (is_plain mode b)))
 
--- what is computed at a place stands there
+-- What is computed at a place stands there.
 pub piece_tells : (mode : Mode) (opens : Bool) (b : ℕ) (bs : List ℕ) → Tells mode opens (b ∷ bs) (piece_at mode opens b bs)
 unfolding piece_at
 piece_tells mode opens b bs =

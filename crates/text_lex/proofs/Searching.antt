@@ -4,7 +4,7 @@ use Rattle.std.proofs.lemmas.Bool.{eqb-true, false_from_ne_true}
 use Rattle.std.proofs.lemmas.List.{get_or-drop, drop_all}
 use Rattle.memchr.specs.Find.{IsFirstByte, is_byte}
 use Rattle.text_lex.specs.Bytes.{count_of}
-use Rattle.text_lex.specs.InFront.{IsLineLen}
+use Rattle.text_lex.specs.inside.Front.{IsLineLen}
 use Rattle.text_lex.proofs.Finding.{zero_counts}
 
 pub none_counted : (byte : ℕ) (text : List ℕ) (n : ℕ) → ((k : ℕ) → k < n → (get_or text k 0 == byte) ≡ true → ⊥) → count_of byte (take n text) ≡ 0
@@ -13,7 +13,7 @@ none_counted byte [] (suc n) h = refl
 none_counted byte (x ∷ xs) (suc n) h =
     zero_counts (x == byte) _ (false_from_ne_true (x == byte) (h 0 (omega arith))) (none_counted byte xs n (λ k lt. h (suc k) (omega arith)))
 
--- the first byte of a kind stands at a place
+-- The first byte of a kind stands at a place.
 pub record IsFirstAt (byte : ℕ) (text : List ℕ) (at : ℕ) : Type 0 where
   pub within : at < length text
   pub before : count_of byte (take at text) ≡ 0

@@ -6,7 +6,7 @@ use Rattle.std.proofs.lemmas.List.{get_or-take, drop_all, drop_more, take_rest}
 use Rattle.std.proofs.lemmas.Slice.{first_rest}
 use Rattle.text_lex.specs.Bytes.{is_script, has_quotes, has_comment, is_white, count_of, begins_joined, begins_substitution, has_substitution, is_plain, begins_bare}
 use Rattle.text_lex.specs.Piece.{Piece, White, Joined, Comment, IsBare, IsQuoted, HasOpenQuote, SubstitutesInQuotes, SubstitutesInBare}
-use Rattle.text_lex.specs.InFront.{IsLineLen, IsJoinedLen, IsPlainLen, IsGap, BeginsWithGap, BeginsWithWord, BeginsNoOther}
+use Rattle.text_lex.specs.inside.Front.{IsLineLen, IsJoinedLen, IsPlainLen, IsGap, BeginsWithGap, BeginsWithWord, BeginsNoOther}
 use Rattle.text_lex.specs.declared.word.Mode.{Mode}
 use Rattle.text_lex.proofs.Finding.{zero_count}
 use Rattle.text_lex.proofs.Pieces.{BeginsBare, begins_from_tests, substitution_from_tests, ends_from_plain}
@@ -21,14 +21,14 @@ white_gap mode opens (b ∷ bs) some h = record {
   some = λ _. (White b, record { spelling = refl; stands = h; no_word = refl; feeds = omega arith });
 }
 
--- where a byte is counted not, it does not stand
+-- Where a byte is counted not, it does not stand.
 not_counted : (byte : ℕ) (text : List ℕ) (n k : ℕ) → count_of byte (take n text) ≡ 0 → k + 1 ≡ n → n ≤ length text → get_or text k 0 ≢ byte
 not_counted byte text n k none e within is =
     let one : count_of byte (take (k + 1) text) ≡ count_of byte (take k text) + 1 = count_of-yes byte text k (omega arith) is in
     let same : count_of byte (take (k + 1) text) ≡ 0 = ap (λ m. count_of byte (take m text)) e ∙ none in
     omega (arith, one, same)
 
--- a count of line feeds against the test of the last byte
+-- A count of line feeds against the test of the last byte.
 no_feeds : (n b : ℕ) → n ≡ 0 → b ≢ 10 → n ≡ cond {A = ℕ} (b == 10) 1 0
 no_feeds n b e ne = e ∙ sym (cond-false {A = ℕ} (b == 10) 1 0 (ne_eqb b 10 ne))
 
@@ -94,7 +94,7 @@ and_if_first true true h = absurd (h refl refl)
 and_if_first true false h = refl
 and_if_first false y h = refl
 
--- the tests of the first byte
+-- The tests of the first byte.
 bare_tests : (mode : Mode) (opens : Bool) (b : ℕ) (bs : List ℕ) → BeginsNoOther mode (b ∷ bs) → BeginsWithWord mode opens (b ∷ bs) → BeginsBare mode opens b bs
 bare_tests mode opens b bs other word = record {
   white = word.not_white (omega arith);
@@ -135,12 +135,12 @@ bare_found mode opens (b ∷ bs) len other word plain none =
       ends = ends_from_plain mode (drop len (b ∷ bs)) ends none;
     }
 
--- a text around the byte at a place
+-- A text around the byte at a place.
 pub text_at : (text : List ℕ) (at byte : ℕ) → at < length text → get_or text at 0 ≡ byte → text ≡ take at text ++ byte ∷ drop (at + 1) text
 text_at text at byte within is =
     sym (take-append-drop at text) ∙ (ap (λ x. take at text ++ x) (drop_more text at 0 within) ∙ ap (λ x. take at text ++ x ∷ drop (at + 1) text) is)
 
--- a text behind its first byte
+-- A text after its first byte.
 pub first_and_rest : (text : List ℕ) (byte : ℕ) → 0 < length text → get_or text 0 0 ≡ byte → text ≡ byte ∷ between 1 (length text) text
 first_and_rest text byte some is = first_rest text 0 some ∙ ap (λ x. x ∷ between 1 (length text) text) is
 
@@ -148,7 +148,7 @@ pub not_empty : (text : List ℕ) → false ≡ (length text == 0) → 0 < lengt
 not_empty [] h = absurd (cc)
 not_empty (b ∷ bs) h = omega arith
 
--- a refusal of a quoted word, and a quoted word
+-- A refusal of a quoted word, and a quoted word.
 pub open_quote : (mode : Mode) (text : List ℕ) → has_quotes mode ≡ true → count_of 34 text ≡ 0 → HasOpenQuote mode (34 ∷ text)
 open_quote mode text quotes none = record { quotes = quotes; never = (text, refl, none) }
 
@@ -159,7 +159,7 @@ quotes_refused mode text len script first h =
 pub quotes_found : (mode : Mode) (text : List ℕ) (len : ℕ) → has_quotes mode ≡ true → IsFirstAt 34 text len → (is_script mode ≡ true → has_substitution (take len text) ≡ false) → IsQuoted mode (take len text)
 quotes_found mode text len quotes first h = record { quotes = quotes; inside = first.before; kept = h }
 
--- the text behind a byte, as it is cut
+-- The text after a byte, as it is cut.
 pub rest_at : (text : List ℕ) (at byte : ℕ) → at < length text → get_or text at 0 ≡ byte → text ≡ take at text ++ byte ∷ [] ++ take (length text - (at + 1)) (drop (at + 1) text)
 rest_at text at byte within is =
     text_at text at byte within is ∙ (sym (append_assoc (take at text) (byte ∷ []) (drop (at + 1) text)) ∙ ap (λ x. take at text ++ byte ∷ [] ++ x) (sym (take_rest text (at + 1))))

@@ -1,5 +1,5 @@
 pub mod Bytes
 pub mod Piece
 pub mod Split
-pub mod InFront
-pub mod Splitting
+pub mod Name
+pub mod inside

@@ -14,17 +14,17 @@ ghost use Rattle.text_lex.specs.Bytes.{
 };
 ghost use Rattle.text_lex.specs.Piece.{ClosesNone};
 ghost use Rattle.text_lex.specs.declared.word.Mode.{Mode};
-ghost use Rattle.text_lex.specs.InFront.{ClosesAt, IsLineLen, IsJoinedLen, IsPlainLen, IsSingle, BeginsNoOther, BeginsWithGap, BeginsWithWord, Finds};
+ghost use Rattle.text_lex.specs.inside.Front.{ClosesAt, IsLineLen, IsJoinedLen, IsPlainLen, IsSingle, BeginsNoOther, BeginsWithGap, BeginsWithWord, IsInFront};
 
 use crate::word::{Form, LexKind, Mode};
 use memchr::memchr;
 
-/// The first word of a text, and what comes behind it.
+/// The first word of a text, and what comes after it.
 #[derive(Clone, Copy)]
 pub(crate) enum Front<'a> {
     /// The text has ended.
     End,
-    /// A word, without its quotes or braces, and the text behind it.
+    /// A word, without its quotes or braces, and the text after it.
     Word {
         form: Form,
         text: &'a [u8],
@@ -156,7 +156,7 @@ fn has_substitution(text: &[u8]) -> bool
 }
 
 /// How many plain bytes stand in front.
-fn plain_len(mode: Mode, text: &[u8]) -> usize
+pub(crate) fn plain_len(mode: Mode, text: &[u8]) -> usize
     ensures { IsPlainLen mode text.now result }
 {
     for (i, byte) in text.iter().enumerate() {
@@ -167,7 +167,7 @@ fn plain_len(mode: Mode, text: &[u8]) -> usize
     text.len()
 }
 
-/// Where the brace is closed behind whose `{` the text stands.
+/// Where the brace is closed after whose `{` the text stands.
 fn closing_brace(text: &[u8]) -> Option<usize>
     ensures { MatchOption result (ClosesNone text.now) (ClosesAt text.now) }
 {
@@ -189,7 +189,7 @@ fn closing_brace(text: &[u8]) -> Option<usize>
 fn bare(mode: Mode, text: &[u8]) -> Front<'_>
     requires { BeginsNoOther mode text.now }
     ensures { (command_could_begin : Bool) → BeginsWithWord mode command_could_begin text.now
-        → Finds mode command_could_begin text.now result }
+        → IsInFront mode command_could_begin text.now result }
 {
     let len = plain_len(mode, text);
     if is_script(mode) && begins_substitution(&text[len..]) {
@@ -202,10 +202,10 @@ fn bare(mode: Mode, text: &[u8]) -> Front<'_>
     }
 }
 
-/// The quoted word behind whose first quote the text stands.
+/// The quoted word after whose first quote the text stands.
 fn quoted(mode: Mode, text: &[u8]) -> Front<'_>
     requires { quote_mode mode ≡ true }
-    ensures { (command_could_begin : Bool) → Finds mode command_could_begin (quote ∷ text.now) result }
+    ensures { (command_could_begin : Bool) → IsInFront mode command_could_begin (quote ∷ text.now) result }
 {
     let Some(len) = memchr(b'"', text) else {
         return Front::Refused(LexKind::BadString);
@@ -220,10 +220,10 @@ fn quoted(mode: Mode, text: &[u8]) -> Front<'_>
     }
 }
 
-/// The braced word behind whose first brace the text stands.
+/// The braced word after whose first brace the text stands.
 fn braced(text: &[u8]) -> Front<'_>
     ensures { (mode : Mode) (command_could_begin : Bool) → script_mode mode ≡ true
-        → Finds mode command_could_begin (open_brace ∷ text.now) result }
+        → IsInFront mode command_could_begin (open_brace ∷ text.now) result }
 {
     let Some(len) = closing_brace(text) else {
         return Front::Refused(LexKind::BadString);
@@ -249,7 +249,8 @@ fn single(form: Form, text: &[u8]) -> Front<'_>
 
 /// The word in front of a text that begins with no gap.
 pub(crate) fn first_word(mode: Mode, text: &[u8]) -> Front<'_>
-    ensures { (command_could_begin : Bool) → BeginsWithWord mode command_could_begin text.now → Finds mode command_could_begin text.now result }
+    ensures { (command_could_begin : Bool) → BeginsWithWord mode command_could_begin text.now
+        → IsInFront mode command_could_begin text.now result }
 {
     if text.is_empty() {
         return Front::End;

@@ -3,8 +3,8 @@ use outside::Place;
 /// How the words of a text are split.
 #[derive(Clone, Copy, Debug, PartialEq, Eq)]
 pub enum Mode {
-    /// LEF and DEF: words between blanks, tabs, carriage returns and line feeds.
-    /// A word that begins with `#` begins a comment to the end of its line, one that begins with `"` goes to the next `"`.
+    /// LEF and DEF: words between blanks, tabs, carriage returns and line feeds. A word that begins with `#` begins a
+    /// comment to the end of its line, one that begins with `"` goes to the next `"`.
     LefDef,
     /// A script: commands that end at a line feed or a `;`, of bare, `"quoted"` and `{braced}` words.
     Tcl,
@@ -47,7 +47,7 @@ pub enum LexKind {
     Substitution,
 }
 
-/// A word that is refused. Nothing behind it is read.
+/// A word that is refused. Nothing after it is read.
 #[derive(Clone, Copy, Debug, PartialEq, Eq)]
 pub struct LexError {
     /// Where the word begins.

@@ -1,9 +1,9 @@
 ghost use Rattle.std.specs.Prelude.{◌≡◌, ◌≢◌, ◌+◌, ◌<◌, ◌≤◌, ◌^◌, length};
 ghost use Rattle.text_lex.specs.Bytes.{line_feed, count_of};
-ghost use Rattle.text_lex.specs.Split.{Split, IsSplit, Answers, next_place, place_behind};
-ghost use Rattle.text_lex.specs.InFront.{BeginsWithWord, FeedsAs, behind_feeds};
+ghost use Rattle.text_lex.specs.Split.{Split, IsSplit, NextIs, next_place, place_after};
+ghost use Rattle.text_lex.specs.inside.Front.{BeginsWithWord, FeedsAs, after_feeds};
 ghost use Rattle.text_lex.specs.Piece.{Item, ends_command as command_ends};
-ghost use Rattle.text_lex.specs.Splitting.{CanCount, words_left};
+ghost use Rattle.text_lex.specs.inside.Splitting.{CanCount, words_left};
 
 use crate::front::{Front, first_word, gap_len};
 use crate::word::{Form, LexError, LexKind, Mode, Word};
@@ -23,17 +23,17 @@ pub struct Words<'a> {
 
 impl<'a> Model for Words<'a> {
     ghost use Rattle.text_lex.specs.Split.{Split};
-    ghost use Rattle.text_lex.specs.Splitting.{left_of, CanCount};
+    ghost use Rattle.text_lex.specs.inside.Splitting.{words_after, CanCount};
 
-    // The words that are still to come, the place behind them, and why the word there is refused, if it is.
+    // The words that are still to come, the place after them, and why the word there is refused, if it is.
     ghost Value = { Split };
 
-    ghost view = { λ w. left_of w.mode w.command_could_begin w.place w.rest.now w.refusal };
+    ghost view = { λ w. words_after w.mode w.command_could_begin w.place w.rest.now w.refusal };
 
     ghost invariant = { λ w. CanCount w.place w.rest.now };
 }
 
-/// The place of what stands behind a line feed.
+/// The place of what stands after a line feed.
 fn next_line(place: Place) -> Place
     requires { place.line + 1 < 2 ^ 64 }
     ensures { result ≡ record { line = place.line + 1; word = 1 } }
@@ -44,7 +44,7 @@ fn next_line(place: Place) -> Place
     }
 }
 
-/// The place of what stands behind a word without a line feed.
+/// The place of what stands after a word without a line feed.
 fn next_word(place: Place) -> Place
     requires { place.word + 1 < 2 ^ 64 }
     ensures { result ≡ record { line = place.line; word = place.word + 1 } }
@@ -55,11 +55,11 @@ fn next_word(place: Place) -> Place
     }
 }
 
-/// The place of what stands behind a word that may go over lines.
-fn behind_lines(place: Place, text: &[u8]) -> Place
+/// The place of what stands after a word that may go over lines.
+fn after_lines(place: Place, text: &[u8]) -> Place
     requires lines { place.line + length text.now < 2 ^ 64 }
     requires words { place.word + 1 < 2 ^ 64 }
-    ensures { result ≡ behind_feeds place (count_of line_feed text.now) }
+    ensures { result ≡ after_feeds place (count_of line_feed text.now) }
 {
     let lines = memchr_iter(b'\n', text).count() as u64;
     if lines == 0 {
@@ -72,21 +72,21 @@ fn behind_lines(place: Place, text: &[u8]) -> Place
     }
 }
 
-/// The place of what stands behind a word.
-fn behind(place: Place, form: Form, text: &[u8]) -> Place
+/// The place of what stands after a word.
+fn after(place: Place, form: Form, text: &[u8]) -> Place
     requires lines { place.line + length text.now < 2 ^ 64 }
     requires words { place.word + 1 < 2 ^ 64 }
     requires feeds { FeedsAs form text.now }
-    ensures { result ≡ place_behind place (Item form text.now) }
+    ensures { result ≡ place_after place (Item form text.now) }
 {
     match form {
         Form::Bare | Form::Semicolon => next_word(place),
         Form::Break => next_line(place),
-        Form::Quoted | Form::Braced => behind_lines(place, text),
+        Form::Quoted | Form::Braced => after_lines(place, text),
     }
 }
 
-/// Whether a command could begin behind a word.
+/// Whether a command could begin after a word.
 fn ends_command(form: Form) -> bool
     ensures { result ≡ command_ends form }
 {
@@ -149,7 +149,7 @@ impl<'a> Words<'a> {
     // Into each caller, whose mode is mostly a constant.
     #[inline(always)]
     pub fn next(&mut self) -> Result<Option<Word<'a>>, LexError>
-        ensures { Answers self.old result self.new }
+        ensures { NextIs self.old result self.new }
     {
         if let Some(refusal) = self.refusal {
             return Err(refusal);
@@ -170,7 +170,7 @@ impl<'a> Words<'a> {
             Front::Word { form, text, rest } => {
                 let place = self.place;
                 self.rest = rest;
-                self.place = behind(place, form, text);
+                self.place = after(place, form, text);
                 self.command_could_begin = ends_command(form);
                 Ok(Some(Word { text, place, form }))
             }

@@ -1,6 +1,6 @@
 use Rattle.std.proofs.Common.{true}
 use Rattle.text_lex.specs.Split.{first_place}
-use Rattle.text_lex.specs.Splitting.{words_left}
+use Rattle.text_lex.specs.inside.Splitting.{words_left}
 use Rattle.text_lex.proofs.Made.{words_left_split, split_one}
 use Rattle.text_lex.proofs.laws.one_split.Goals as goal
 

@@ -2,7 +2,7 @@ use Rattle.std.proofs.Common.{length}
 use Rattle.text_lex.proofs.Steps.{IsLeft}
 use Rattle.text_lex.proofs.words.skip_gap.Given as goal
 
--- the words of what is left are those of the whole text
+-- The words of what is left are those of the whole text.
 abbrev pub invariant-loop-mode : goal.invariant-loop-mode
 invariant-loop-mode l = IsLeft l.mode l.command_could_begin l.fn.place l.text l.place l.rest
 

@@ -1,6 +1,6 @@
 use Rattle.std.proofs.Common.{true, subst}
 use Rattle.text_lex.specs.Split.{IsMadeOf, first_place}
-use Rattle.text_lex.specs.Splitting.{pieces_of}
+use Rattle.text_lex.specs.inside.Splitting.{pieces_of}
 use Rattle.text_lex.specs.declared.word.Mode.{Mode}
 use Rattle.text_lex.proofs.Made.{made, words_left_split, split_is}
 use Rattle.text_lex.proofs.Modes.{lines_refuse_none, lef_def_substitutes_none, words_within}

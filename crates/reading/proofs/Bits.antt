@@ -4,7 +4,8 @@ use Rattle.std.proofs.lemmas.Bool.{cases_eq, ne_eqb, eq-eqb}
 use Rattle.std.proofs.lemmas.Nat.Bits.{bit_at_set_same, bit_at_set_other, bit_at_not, bit_at-lt, bit_at-zero}
 use Rattle.std.proofs.lemmas.Option.{slice_get_within}
 use Rattle.std.specs.Int.{bit_at, bit_not}
-use Rattle.reading.specs.Graph.{among, IsWith, IsWithout, IsSet, listed_in}
+use Rattle.reading.specs.inside.Patterns.{among, IsWith, IsWithout, IsSet}
+use Rattle.reading.specs.Rule.{listed_in}
 
 pub with_one : (set k : ℕ) → k < 64 → IsWith set k (bit_or set (1 * 2 ^ k % 2 ^ 64))
 with_one set k h = λ n. elim (cases_eq k n) [

@@ -7,8 +7,10 @@ use Rattle.reading.specs.declared.patterns.Node.{Node}
 use Rattle.reading.specs.declared.patterns.Node.TheVariants as nodes
 use Rattle.reading.specs.declared.rule.Rule.{Rule, Then' as Then_rule, Or' as Or_rule, Many' as Many_rule}
 use Rattle.reading.specs.Pattern.{Pattern, Never, Empty, One, Then, Or, Many}
-use Rattle.reading.specs.Left.{skips, seq, alt, left}
-use Rattle.reading.specs.Graph.{PartsBelow, IsGraph, Extends, Denotes, Placed, Grown, Joins, Leaves, IsSet, among, IsRule, Built}
+use Rattle.reading.specs.Tests.{skips}
+use Rattle.reading.specs.inside.Left.{seq, alt, left}
+use Rattle.reading.specs.inside.Patterns.{PartsBelow, IsGraph, Extends, Denotes, Placed, Grown, Joins, Leaves, IsSet, among, Built}
+use Rattle.reading.specs.Rule.{IsRule}
 
 pub get-front : {X : Type 0} (xs ys : List X) (i : ℕ) (x : X) → slice_get xs i ≡ Some x → slice_get (xs ++ ys) i ≡ Some x
 get-front [] ys i x h = absurd (let e : None ≡ Some x = h in cc)

@@ -3,7 +3,8 @@ use Rattle.std.proofs.Common.{◌≡◌, ℕ, zero, suc, Bool, true, false, cond
 use Rattle.std.specs.List.{AllByRecursion}
 use Rattle.std.proofs.lemmas.List.{append-nil}
 use Rattle.reading.specs.Pattern.{Pattern, Never, Empty, One, Then, Or, Many, joined, Matches}
-use Rattle.reading.specs.Left.{skips, seq, alt, left, first, apart, meet, solid, closes, HasSamples, IsEach}
+use Rattle.reading.specs.Tests.{skips, first, apart, meet, solid, closes, HasSamples, IsEach}
+use Rattle.reading.specs.inside.Left.{seq, alt, left}
 use Rattle.reading.proofs.Run.{compare, nothing_left}
 
 pub both : (a b : Bool) → (a && b) ≡ true → (a ≡ true) × (b ≡ true)

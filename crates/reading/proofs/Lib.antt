@@ -1,5 +1,6 @@
 pub mod Run
 pub mod Sofar
+pub mod Ends
 pub mod Left
 pub mod Rest
 pub mod Graph
@@ -8,3 +9,4 @@ pub mod Standing
 pub mod Tables
 pub mod Stepping
 pub mod Loop
+pub mod One

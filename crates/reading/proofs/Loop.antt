@@ -1,5 +1,5 @@
 -- The loop over the words of a text.
-use Rattle.std.proofs.Common.{◌≡◌, ℕ, zero, suc, ◌+◌, ◌<◌, List, [], ◌∷◌, ◌++◌, length, take, Option, Some, None, Ok, Err, refl, sym, ◌∙◌, ap, subst, append_assoc, arith, length-append}
+use Rattle.std.proofs.Common.{◌≡◌, ℕ, zero, suc, ◌+◌, ◌<◌, ◌≤◌, Bool, true, false, inl, inr, List, [], ◌∷◌, ◌++◌, length, take, Option, Some, None, Result, Ok, Err, refl, sym, ◌∙◌, ap, subst, append_assoc, arith, length-append}
 use Rattle.std.proofs.lemmas.List.{append-nil}
 use Rattle.outside.specs.declared.place.Place.{Place}
 use Rattle.text_lex.specs.declared.word.LexError.{LexError}
@@ -14,9 +14,13 @@ use Rattle.reading.specs.declared.refusal.Cause.TheVariants.{Lex, Fault}
 use Rattle.reading.specs.declared.refusal.Refusal.{Refusal}
 use Rattle.reading.specs.declared.refusal.Refusal.TheVariants as refusals
 use Rattle.reading.specs.Pattern.{joined}
-use Rattle.reading.specs.Reading.{Format, Text, IsOrderly, IsRead}
-use Rattle.reading.specs.Words.{Token, token, place_in, IsWhole, Steps}
-use Rattle.reading.specs.Taking.{Faulty, Takes, part_behind, Names, Refuses}
+use Rattle.reading.specs.Reading.{Format, Text, IsOrderly, IsRefused, IsRead, IsEnding, GoesPast, EndsFirst}
+use Rattle.reading.specs.Word.{Token, token, place_in, end_at, next_on_line, end_after, ended_text}
+use Rattle.reading.specs.Source.{IsWhole, Steps}
+use Rattle.reading.specs.Reader.{Faulty, Takes}
+use Rattle.reading.specs.inside.Engine.{part_after, Names, ends_by, Finishes}
+use Rattle.reading.specs.Outcome.{Refuses, IsReadAs, Gives}
+use Rattle.reading.proofs.Ends.{take-front, begun-past, less-past, open-past, whole-past, sofar-other}
 use Rattle.reading.proofs.Sofar.{Sofar, sofar-start, sofar-open, sofar-close, Next, Shows, refuse-syntax, refuse-fault, refuse-lex, read-whole}
 
 -- where the loop stands in the text: what it has left, and the words of the open unit
@@ -39,10 +43,6 @@ loop-start f stands text h = record {
   there = h;
   closed = λ a w e end. refl;
 }
-
-take-front : {X : Type 0} (xs ys : List X) → take (length xs) (xs ++ ys) ≡ xs
-take-front [] ys = refl
-take-front (x ∷ xs) ys = ap (λ z. x ∷ z) (take-front xs ys)
 
 take-next : {X : Type 0} (xs ys : List X) (x : X) → take (length xs + 1) (xs ++ x ∷ ys) ≡ xs ++ x ∷ []
 take-next [] ys x = refl
@@ -75,7 +75,7 @@ longer xs x = omega (arith, length-append xs (x ∷ []))
 
 pub loop-more : {S K : Type 0} (f : Format Token S K) (old new : List (List Token) → List Token → Type 0) (text rest after : Text Token) (part : List Token) (word : Word) (step : Step) →
     (a : AtLoop f old text rest part) → Steps rest (Ok (Some word)) after → Takes f new a.units part (token word) (Ok step) →
-    AtLoop f new text after (part_behind step (part ++ token word ∷ []))
+    AtLoop f new text after (part_after step (part ++ token word ∷ []))
 loop-more f old new text rest after part word Open a s k =
     let next = loop-next f old text rest after part word a s in
     record {
@@ -130,16 +130,27 @@ parted f stands text rest part a =
 
 -- ## refusals
 
+-- The text is refused at a word between these two, of which the second is read last.
+abbrev pub RefusedBetween : {S K : Type 0} → Format Token S K → Text Token → ℕ → ℕ → Refusal K → Type 0
+RefusedBetween f text low high refusals.Want = Unit {0}
+RefusedBetween f text low high (refusals.At place cause) =
+    (n : ℕ) × (low ≤ n) × (n ≤ high) × IsRefused f text n cause × (place_in text.words text.refused n ≡ Some place)
+
 loop-fault : {S K : Type 0} (f : Format Token S K) (old : List (List Token) → List Token → Type 0) (text rest after : Text Token) (part : List Token) (word : Word) (place : Place) (k : K) →
-    IsOrderly f → (a : AtLoop f old text rest part) → Steps rest (Ok (Some word)) after → Faulty f a.units part (token word) place k → Refuses f text (refusals.At place (Fault k))
+    IsOrderly f → (a : AtLoop f old text rest part) → Steps rest (Ok (Some word)) after → Faulty f a.units part (token word) place k →
+    RefusedBetween f text (length (joined a.units)) (length a.front) (refusals.At place (Fault k))
 loop-fault {K = K} f old text rest after part word place k orderly a s q =
     let next = loop-next f old text rest after part word a s in
     let found : Found K = record { at = q.at; kind = k } in
     let shows : Shows f a.units part (token word) found = record { begins = q.begins; is = q.is } in
     let all : text.words ≡ joined a.units ++ ((part ++ token word ∷ []) ++ after.words) =
     a.is ∙ ap (λ z. a.front ++ z) s.0 ∙ ap (λ z. z ++ token word ∷ after.words) (parted f old text rest part a)
-    ∙ append_assoc (joined a.units) part (token word ∷ after.words) ∙ ap (λ z. joined a.units ++ z) (sym (append_assoc part (token word ∷ []) after.words)) in (
+    ∙ append_assoc (joined a.units) part (token word ∷ after.words) ∙ ap (λ z. joined a.units ++ z) (sym (append_assoc part (token word ∷ []) after.words)) in
+    let near : q.at < length (part ++ token word ∷ []) = orderly.near a.units (part ++ token word ∷ []) found q.begins q.is in
+    let count : length a.front ≡ length (joined a.units ++ part) = ap length (parted f old text rest part a) in (
       length (joined a.units) + q.at,
+      omega arith,
+      omega (arith, length-append (joined a.units) part, length-append part (token word ∷ [])),
       refuse-fault f text (length a.front) a.units part (token word) found orderly a.sofar next shows,
       ap (λ z. place_in z text.refused (length (joined a.units) + q.at)) all ∙ place-behind (joined a.units) ((part ++ token word ∷ []) ++ after.words) text.refused q.at
           ∙ place-front (part ++ token word ∷ []) after.words text.refused q.at place q.place_is,
@@ -147,18 +158,23 @@ loop-fault {K = K} f old text rest after part word place k orderly a s q =
 
 pub loop-refuses : {S K : Type 0} (f : Format Token S K) (old new : List (List Token) → List Token → Type 0) (text rest after : Text Token) (part : List Token) (word : Word)
     (stop : Stop K) (place : Place) (r : Refusal K) → IsOrderly f → (a : AtLoop f old text rest part) → Steps rest (Ok (Some word)) after →
-    Takes f new a.units part (token word) (Err stop) → place ≡ word.place → Names place stop r → Refuses f text r
-loop-refuses f old new text rest after part word stops.Want place r orderly a s k p e = subst (λ z. Refuses f text z) (sym e) tt
+    Takes f new a.units part (token word) (Err stop) → place ≡ word.place → Names place stop r →
+    RefusedBetween f text (length (joined a.units)) (length a.front) r
+loop-refuses f old new text rest after part word stops.Want place r orderly a s k p e =
+    subst (λ z. RefusedBetween f text (length (joined a.units)) (length a.front) z) (sym e) tt
 loop-refuses f old new text rest after part word stops.Syntax place r orderly a s k p e =
     let next = loop-next f old text rest after part word a s in
-    subst (λ z. Refuses f text z) (sym e) (
+    let count : length a.front ≡ length (joined a.units ++ part) = ap length (parted f old text rest part a) in
+    subst (λ z. RefusedBetween f text (length (joined a.units)) (length a.front) z) (sym e) (
       length a.front,
+      omega (arith, length-append (joined a.units) part),
+      omega arith,
       refuse-syntax f text (length a.front) a.units part (token word) a.sofar next k,
       ap (λ z. place_in z text.refused (length a.front)) (a.is ∙ ap (λ z. a.front ++ z) s.0) ∙ place-next a.front after.words (token word) text.refused
           ∙ ap (λ (z : Place). Some z) (sym p),
     )
 loop-refuses f old new text rest after part word (stops.Fault at kind) place r orderly a s k p e =
-    subst (λ z. Refuses f text z) (sym e) (loop-fault f old text rest after part word at kind orderly a s k)
+    subst (λ z. RefusedBetween f text (length (joined a.units)) (length a.front) z) (sym e) (loop-fault f old text rest after part word at kind orderly a s k)
 
 whole-front : {S K : Type 0} (f : Format Token S K) (stands : List (List Token) → List Token → Type 0) (text rest : Text Token) (part : List Token) →
     (a : AtLoop f stands text rest part) → rest.words ≡ [] → text.words ≡ a.front
@@ -170,10 +186,12 @@ whole-sofar f stands text rest part a e =
     subst (λ z. Sofar f text.words z a.units part) (ap length (sym (whole-front f stands text rest part a e))) a.sofar
 
 pub loop-lex : {S K : Type 0} (f : Format Token S K) (stands : List (List Token) → List Token → Type 0) (text rest after : Text Token) (part : List Token) (error : LexError) →
-    AtLoop f stands text rest part → Steps rest (Err error) after → Refuses f text (refusals.At error.place (Lex error.kind))
-loop-lex f stands text rest after part error a s =
+    (a : AtLoop f stands text rest part) → GoesPast f text (length a.front) → Steps rest (Err error) after → Refuses f text (refusals.At error.place (Lex error.kind))
+loop-lex f stands text rest after part error a past s =
     let e : text.refused ≡ Some error = sym a.refused ∙ s.1 in (
       length text.words,
+      text,
+      inl (subst (λ z. GoesPast f text (length z)) (sym (whole-front f stands text rest part a s.0)) past, refl),
       refuse-lex f text a.units part error (whole-sofar f stands text rest part a s.0) e,
       ap (λ z. place_in text.words z (length text.words)) e ∙ place-refused text.words error,
     )
@@ -186,3 +204,148 @@ loop-end f stands text rest after part whole a s =
     let over : part ≡ [] = a.closed ended.0 ended.1 (sym (whole-front f stands text rest part a s.0) ∙ ended.2) ended.3 in
     let o = whole-sofar f stands text rest part a s.0 in
     (a.units, read-whole f text a.units (subst (λ z. Sofar f text.words (length text.words) a.units z) over o) none, subst (λ z. stands a.units z) over a.there)
+
+-- ## the end
+
+pub past-start : {S K : Type 0} (f : Format Token S K) (stands : List (List Token) → List Token → Type 0) (text : Text Token) (h : stands [] []) →
+    f.ends [] ≡ false → GoesPast f text (length (loop-start f stands text h).front)
+unfolding loop-start
+past-start f stands text h begun = begun-past f begun text
+
+-- Behind a word the text goes on, unless its units end it there.
+pub past-more : {S K : Type 0} (f : Format Token S K) (old new : List (List Token) → List Token → Type 0) (text rest after : Text Token) (part : List Token) (word : Word) (step : Step) →
+    (a : AtLoop f old text rest part) (s : Steps rest (Ok (Some word)) after) (k : Takes f new a.units part (token word) (Ok step)) →
+    ((units : List (List Token)) (p : List Token) → new units p → ends_by step (f.ends units) ≡ false) → GoesPast f text (length a.front) →
+    GoesPast f text (length (loop-more f old new text rest after part word step a s k).front)
+unfolding loop-more
+past-more f old new text rest after part word Open a s k none past =
+    subst (λ z. GoesPast f text z) (longer a.front (token word))
+    (open-past f text (length a.front) a.units part (token word) a.sofar (loop-next f old text rest after part word a s) past k.partly)
+past-more f old new text rest after part word Whole a s k none past =
+    subst (λ z. GoesPast f text z) (longer a.front (token word))
+    (whole-past f text (length a.front) a.units part (token word) a.sofar (loop-next f old text rest after part word a s) past (none _ [] k.there))
+
+-- The whole units have ended the text: their end is still to come.
+pub record AtEnd {S K : Type 0} (f : Format Token S K) (stands : List (List Token) → List Token → Type 0) (text : Text Token) (end : Token) (part : List Token) : Type 0 where
+  pub units : List (List Token)
+  pub ending : IsEnding f text units
+  pub first : EndsFirst f text units
+  pub at : AtLoop f stands (ended_text (joined units)) (record { words = end ∷ []; refused = None }) part
+  pub low : length (joined units) ≤ length (joined at.units)
+
+end-after-last : (xs : List Token) (w : Token) → end_after (xs ++ w ∷ []) ≡ end_at (next_on_line w.place)
+end-after-last [] w = refl
+end-after-last (x ∷ []) w = refl
+end-after-last (x ∷ y ∷ xs) w = end-after-last (y ∷ xs) w
+
+end-form : (xs : List Token) → (end_after xs).form ≡ End
+end-form [] = refl
+end-form (x ∷ []) = refl
+end-form (x ∷ y ∷ xs) = end-form (y ∷ xs)
+
+pub end-more : {S K : Type 0} (f : Format Token S K) (old new : List (List Token) → List Token → Type 0) (text rest after : Text Token) (part : List Token) (word : Word) (step : Step) →
+    (a : AtLoop f old text rest part) → Steps rest (Ok (Some word)) after → Takes f new a.units part (token word) (Ok step) →
+    ((units : List (List Token)) (p : List Token) → new units p → ends_by step (f.ends units) ≡ true) → GoesPast f text (length a.front) →
+    AtEnd f new text (end_at (next_on_line word.place)) (part_after step (part ++ token word ∷ []))
+unfolding loop-more
+end-more f old new text rest after part word Open a s k ends past = absurd (let e : false ≡ true = ends _ _ k.there in cc)
+end-more f old new text rest after part word Whole a s k ends past =
+    let b = loop-more f old new text rest after part word Whole a s k in
+    let u : List Token = part ++ token word ∷ [] in
+    let units : List (List Token) = a.units ++ u ∷ [] in
+    let front : b.front ≡ joined units = parted f new text after [] b ∙ append-nil (joined units) in
+    let is : text.words ≡ joined units ++ after.words = b.is ∙ ap (λ z. z ++ after.words) front in
+    let end : Token = end_at (next_on_line word.place) in
+    let last : end ≡ end_after (joined units) = sym (end-after-last a.front (token word)) ∙ ap end_after front in
+    record {
+      units = units;
+      ending = record { whole = b.sofar.run.whole; ends = ends units [] k.there; rest = after.words; is = is };
+      first = λ others e. (
+          let lt : length a.front < length (joined others) = past others e in
+          let count : length a.front + 1 ≡ length (joined units) = longer a.front (token word) ∙ ap length front in
+          omega arith);
+      at = record {
+        units = units;
+        front = b.front;
+        is = ap (λ z. joined units ++ z ∷ []) (sym last) ∙ ap (λ z. z ++ end ∷ []) (sym front);
+        refused = refl;
+        sofar = sofar-other f text.words (joined units ++ end_after (joined units) ∷ []) b.front after.words (end_after (joined units) ∷ []) units []
+            b.is (ap (λ z. z ++ end_after (joined units) ∷ []) (sym front)) b.sofar;
+        there = k.there;
+        closed = λ x w e form. refl;
+      };
+      low = omega arith;
+    }
+
+-- ## what is read of the text
+
+pub past-refuses : {S K : Type 0} (f : Format Token S K) (text : Text Token) (low high : ℕ) (r : Refusal K) → GoesPast f text high → RefusedBetween f text low high r → Refuses f text r
+past-refuses f text low high refusals.Want past r = tt
+past-refuses f text low high (refusals.At place cause) past r = (r.0, text, inl (less-past f text r.0 high past r.2, refl), r.3, r.4)
+
+pub past-reads : {S K : Type 0} (f : Format Token S K) (stands : List (List Token) → List Token → Type 0) (text rest after : Text Token) (part : List Token) →
+    IsWhole text → (a : AtLoop f stands text rest part) → GoesPast f text (length a.front) → Steps rest (Ok None) after →
+    (units : List (List Token)) × IsReadAs f text units × stands units []
+past-reads f stands text rest after part whole a past s =
+    let e = loop-end f stands text rest after part whole a s in
+    (e.0, (text, inl (subst (λ z. GoesPast f text (length z)) (sym (whole-front f stands text rest part a s.0)) past, refl), e.1), e.2)
+
+-- The end, which stands one word after the units that end the text, is taken.
+pub end-reads : {S K : Type 0} (f : Format Token S K) (old new : List (List Token) → List Token → Type 0) (text : Text Token) (end : Token) (part : List Token) (word : Word) (step : Step) →
+    (a : AtEnd f old text end part) → end ≡ token word → Takes f new a.at.units part (token word) (Ok step) →
+    (units : List (List Token)) × IsReadAs f text units × new units []
+end-reads f old new text end part word step a e k =
+    let heard : Text Token = ended_text (joined a.units) in
+    let rest : Text Token = record { words = end ∷ []; refused = None } in
+    let none : Text Token = record { words = []; refused = None } in
+    let b = loop-more f old new heard rest none part word step a.at (ap (λ z. z ∷ []) e, refl) k in
+    let whole : IsWhole heard = λ r. (joined a.units, end_after (joined a.units), refl, end-form (joined a.units)) in
+    let r = loop-end f new heard none none (part_after step (part ++ token word ∷ [])) whole b (refl, refl) in
+    (r.0, (heard, inr (a.units, a.ending, a.first, omega (arith, length-append (joined a.units) (end_after (joined a.units) ∷ [])), refl), r.1), r.2)
+
+ended-refuses : {S K : Type 0} (f : Format Token S K) (text : Text Token) (units : List (List Token)) (low high : ℕ) (r : Refusal K) → IsEnding f text units → EndsFirst f text units →
+    length (joined units) ≤ low → RefusedBetween f (ended_text (joined units)) low high r → Refuses f text r
+ended-refuses f text units low high refusals.Want ending first le r = tt
+ended-refuses f text units low high (refusals.At place cause) ending first le r =
+    (r.0, ended_text (joined units), inr (units, ending, first, (let a : low ≤ r.0 = r.1 in omega arith), refl), r.3, r.4)
+
+pub end-refuses : {S K : Type 0} (f : Format Token S K) (old new : List (List Token) → List Token → Type 0) (text : Text Token) (end : Token) (part : List Token) (word : Word)
+    (stop : Stop K) (r : Refusal K) → IsOrderly f → (a : AtEnd f old text end part) → end ≡ token word → Takes f new a.at.units part (token word) (Err stop) → Names word.place stop r → Refuses f text r
+end-refuses f old new text end part word stop r orderly a e k n =
+    let rest : Text Token = record { words = end ∷ []; refused = None } in
+    let none : Text Token = record { words = []; refused = None } in
+    ended-refuses f text a.units (length (joined a.at.units)) (length a.at.front) r a.ending a.first a.low
+    (loop-refuses f old new (ended_text (joined a.units)) rest none part word stop word.place r orderly a.at (ap (λ z. z ∷ []) e, refl) k refl n)
+
+-- ## the loop's invariant
+
+-- The loop stands in the text, which goes on after the words so far.
+pub record InText {S K : Type 0} (f : Format Token S K) (stands : List (List Token) → List Token → Type 0) (text rest : Text Token) (part : List Token) : Type 0 where
+  pub at : AtLoop f stands text rest part
+  pub past : GoesPast f text (length at.front)
+
+pub in-start : {S K : Type 0} (f : Format Token S K) (stands : List (List Token) → List Token → Type 0) (text : Text Token) → f.ends [] ≡ false → stands [] [] → InText f stands text text []
+in-start f stands text begun h = record { at = loop-start f stands text h; past = past-start f stands text h begun }
+
+pub in-more : {S K : Type 0} (f : Format Token S K) (old new : List (List Token) → List Token → Type 0) (text rest after : Text Token) (part : List Token) (word : Word) (step : Step) →
+    (a : InText f old text rest part) → Steps rest (Ok (Some word)) after → Takes f new a.at.units part (token word) (Ok step) →
+    ((units : List (List Token)) (p : List Token) → new units p → ends_by step (f.ends units) ≡ false) → InText f new text after (part_after step (part ++ token word ∷ []))
+in-more f old new text rest after part word step a s k none = record {
+  at = loop-more f old new text rest after part word step a.at s k;
+  past = past-more f old new text rest after part word step a.at s k none a.past;
+}
+
+pub in-refuses : {S K : Type 0} (f : Format Token S K) (old new : List (List Token) → List Token → Type 0) (text rest after : Text Token) (part : List Token) (word : Word)
+    (stop : Stop K) (place : Place) (r : Refusal K) → IsOrderly f → (a : InText f old text rest part) → Steps rest (Ok (Some word)) after →
+    Takes f new a.at.units part (token word) (Err stop) → place ≡ word.place → Names place stop r → Refuses f text r
+in-refuses f old new text rest after part word stop place r orderly a s k p n =
+    past-refuses f text (length (joined a.at.units)) (length a.at.front) r a.past (loop-refuses f old new text rest after part word stop place r orderly a.at s k p n)
+
+-- What reading the end gives is what reading the text gives.
+pub end-gives : {A S K : Type 0} (f : Format Token S K) (old new : List (List Token) → List Token → Type 0) (holds : List (List Token) → Type 0) (text : Text Token) (end : Token) (part : List Token) (word : Word) →
+    IsOrderly f → ((units : List (List Token)) (p : List Token) → new units p → holds units) → (a : AtEnd f old text end part) → end ≡ token word →
+    (r : Result A (Refusal K)) → Finishes f new a.at.units part (token word) r → Gives f holds text r
+end-gives f old new holds text end part word orderly held a e (Ok x) k =
+    let r = end-reads f old new text end part word k.0 a e k.1 in (r.0, r.1, held r.0 [] r.2)
+end-gives f old new holds text end part word orderly held a e (Err refusal) k =
+    end-refuses f old new text end part word k.0 refusal orderly a e k.1 k.2

@@ -3,7 +3,8 @@ use Rattle.std.proofs.Common.{◌≡◌, Bool, true, false, not, List, [], ◌�
 use Rattle.std.specs.List.{AllByRecursion}
 use Rattle.std.proofs.lemmas.List.{append-nil}
 use Rattle.reading.specs.Pattern.{Pattern, Never, Empty, One, Then, Or, Many, joined, Matches, Begins}
-use Rattle.reading.specs.Left.{skips, left, avoids, comes_last, lefts, HasSamples}
+use Rattle.reading.specs.Tests.{skips, avoids, comes_last, HasSamples}
+use Rattle.reading.specs.inside.Left.{left, lefts}
 use Rattle.reading.proofs.Left.{both, not-true, skips-to, skips-of, left-to, left-from, live, IsNeat, left-neat}
 use Rattle.reading.proofs.Run.{nothing_left}
 

@@ -200,11 +200,11 @@ behind-by {W} f units part w r ends y more (v ∷ vs) p h b some e =
 abbrev Snoc : {X : Type 0} → List X → Type 0
 Snoc {X} xs = (ys : List X) × (y : X) × (xs ≡ ys ++ y ∷ [])
 
-snoc : {X : Type 0} (x : X) (xs : List X) → Snoc (x ∷ xs)
+pub snoc : {X : Type 0} (x : X) (xs : List X) → Snoc (x ∷ xs)
 snoc x [] = ([], x, refl)
 snoc x (z ∷ xs) = let t = snoc z xs in (x ∷ t.0, t.1, ap (λ w. x ∷ w) t.2)
 
-last-by : {W S K : Type 0} (f : Format W S K) (units : List (List W)) (part : List W) (w : W) → Run f units part →
+pub last-by : {W S K : Type 0} (f : Format W S K) (units : List (List W)) (part : List W) (w : W) → Run f units part →
     (others : List (List W)) → Follows f [] others → joined others ≡ joined units ++ (part ++ w ∷ []) →
     others ≡ units ++ (part ++ w ∷ []) ∷ []
 last-by f units part w r [] h e =

@@ -36,7 +36,7 @@ pub along : {W S K : Type 0} (f : Format W S K) (words other : List W) → words
 along f words other e s =
     (record { units = s.units; part = s.part; whole = s.whole; begins = s.begins; some = s.some; is = sym e ∙ s.is }, refl, refl)
 
-here : {W S K : Type 0} (f : Format W S K) (text : List W) (i : ℕ) (units : List (List W)) (part : List W) (w : W) →
+pub here : {W S K : Type 0} (f : Format W S K) (text : List W) (i : ℕ) (units : List (List W)) (part : List W) (w : W) →
     Sofar f text i units part → Next text i w → take (i + 1) text ≡ joined units ++ (part ++ w ∷ [])
 here {W} f text i units part w s n = n.is ∙ ap (λ (z : List W). z ++ w ∷ []) s.is ∙ append_assoc (joined units) part (w ∷ [])
 

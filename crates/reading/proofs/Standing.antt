@@ -3,8 +3,8 @@ use Rattle.std.proofs.Common.{◌≡◌, Bool, true, false, cond, refl, sym, ◌
 use Rattle.reading.specs.declared.patterns.Standing.{Standing}
 use Rattle.reading.specs.declared.patterns.Standing.TheVariants.{Nowhere, Open, Whole}
 use Rattle.reading.specs.Pattern.{Pattern, Never}
-use Rattle.reading.specs.Left.{skips}
-use Rattle.reading.specs.Standing.{standing_of}
+use Rattle.reading.specs.Tests.{skips}
+use Rattle.reading.specs.inside.Patterns.{standing_of}
 
 pub is-nowhere : {S : Type 0} (p : Pattern S) → p ≡ Never → Nowhere ≡ standing_of p
 is-nowhere p e = ap standing_of (sym e)

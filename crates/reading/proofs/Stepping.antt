@@ -10,13 +10,16 @@ use Rattle.reading.specs.declared.patterns.Node.{Node}
 use Rattle.reading.specs.declared.machine.Machine.{Machine}
 use Rattle.reading.specs.declared.machine.Rest.{Rest}
 use Rattle.reading.specs.Pattern.{Pattern, Never, Matches, Begins}
-use Rattle.reading.specs.Left.{skips, lefts, IsEach}
-use Rattle.reading.specs.Graph.{IsGraph, Denotes, Grown, Leaves}
-use Rattle.reading.specs.Standing.{IsStanding}
+use Rattle.reading.specs.Tests.{skips, IsEach}
+use Rattle.reading.specs.inside.Left.{lefts}
+use Rattle.reading.specs.inside.Patterns.{IsGraph, Denotes, Grown, Leaves}
+use Rattle.reading.specs.inside.Patterns.{IsStanding}
 use Rattle.reading.specs.Reading.{Format, IsFine}
-use Rattle.reading.specs.Words.{Token, token, place_in}
-use Rattle.reading.specs.Taking.{GoesOn, Closes, Faulty}
-use Rattle.reading.specs.Grammar.{IsRegular, NoneShows, IsTaken, KnowsLefts, KnowsStarts, HasRows, IsReady, KeepsOthers, TellsNoMore, Notes, StartsAt, StandsAt}
+use Rattle.reading.specs.Word.{Token, token, place_in}
+use Rattle.reading.specs.Reader.{GoesOn, Closes, Faulty}
+use Rattle.reading.specs.Grammar.{IsRegular, NoneShows, IsTaken}
+use Rattle.reading.specs.inside.Machine.{KnowsLefts, KnowsStarts, HasRows, IsReady, KeepsOthers, TellsNoMore, Notes}
+use Rattle.reading.specs.inside.Engine.{StartsAt, StandsAt}
 use Rattle.reading.proofs.Left.{closed}
 use Rattle.reading.proofs.Graph.{length-extends}
 use Rattle.reading.proofs.Rest.{last, lefts-more, rest-never, rest-some, rest-skips, rest-goes_on}
@@ -133,9 +136,11 @@ pub step-begins : {S C K : Type 0} (number : S → ℕ) (all : List S) (pattern 
     Before number all pattern f holds old new at rest units part w → ((p : Pattern S) → Denotes number new rest p → p ≡ Never → ⊥) →
     Begins (f.sort units) (f.follow units) (part ++ w ∷ [])
 step-begins number all pattern f holds old new at rest units part w b some =
-    subst (λ z. Begins (f.sort units) z (part ++ w ∷ [])) (sym b.stands.follow)
-    (rest-some (f.sort units) all (b.regular.usable b.stands.section) (b.regular.samples units b.stands.section b.stands.follow) (pattern b.stands.section) (part ++ w ∷ [])
-    (b.regular.units b.stands.section).solid (some _ (behind number all pattern f holds old new at rest units part w b)))
+    let c = b.regular.place units in
+    let same : pattern b.stands.section ≡ pattern c = sym b.stands.follow ∙ b.regular.follow units in
+    subst (λ z. Begins (f.sort units) z (part ++ w ∷ [])) (sym (b.regular.follow units))
+    (rest-some (f.sort units) all (b.regular.usable c) (b.regular.samples units) (pattern c) (part ++ w ∷ [])
+    (b.regular.units c).solid (subst (λ z. lefts (f.sort units) z (part ++ w ∷ []) ≡ Never → ⊥) same (some _ (behind number all pattern f holds old new at rest units part w b))))
 
 -- the place of a word of a list
 pub place-of : (words : List Word) (i : ℕ) (d : Word) → i < length words → place_in (map token words) None i ≡ Some (get_or words i d).place

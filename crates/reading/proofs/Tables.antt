@@ -3,11 +3,11 @@ use Rattle.std.proofs.Common.{◌≡◌, ℕ, zero, suc, ◌+◌, ◌*◌, ◌<�
 use Rattle.reading.specs.declared.patterns.Node.{Node}
 use Rattle.reading.specs.declared.patterns.Node.TheVariants as nodes
 use Rattle.reading.specs.Pattern.{Pattern, Never, Empty, One, Then, Or, Many}
-use Rattle.reading.specs.Left.{left}
-use Rattle.reading.specs.Graph.{IsGraph, Extends, Grown, Denotes}
-use Rattle.reading.specs.Standing.{IsStanding}
+use Rattle.reading.specs.inside.Left.{left}
+use Rattle.reading.specs.inside.Patterns.{IsGraph, Extends, Grown, Denotes}
+use Rattle.reading.specs.inside.Patterns.{IsStanding}
 use Rattle.reading.specs.declared.machine.Rest.{Rest}
-use Rattle.reading.specs.Grammar.{IsUnknown, TellsNoMore, Notes, KnowsLefts, KnowsStarts}
+use Rattle.reading.specs.inside.Machine.{IsUnknown, TellsNoMore, Notes, KnowsLefts, KnowsStarts}
 use Rattle.reading.proofs.Bits.{number-below}
 use Rattle.reading.proofs.Graph.{get-either, denotes-extends, length-extends}
 

@@ -5,7 +5,7 @@ use Rattle.reading.specs.declared.refusal.Found.{Found}
 use Rattle.reading.specs.declared.rule.Rule.{Rule, Nothing, One, Other, Then', Or', Many'}
 use Rattle.reading.specs.Pattern.{Pattern}
 use Rattle.reading.specs.Pattern as patterns
-use Rattle.reading.specs.Graph.{listed_in, IsRule}
+use Rattle.reading.specs.Rule.{listed_in, IsRule}
 use Rattle.reading.specs.Reading.{Format, IsOrderly}
 
 -- Each fault stands at the last word that shows it, and the words of a unit show at most one.

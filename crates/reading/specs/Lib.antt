@@ -1,9 +1,11 @@
 pub mod Pattern
-pub mod Left
+pub mod Tests
+pub mod Rule
 pub mod Reading
-pub mod Words
-pub mod Taking
-pub mod Graph
-pub mod Standing
+pub mod Word
+pub mod Source
 pub mod Grammar
+pub mod Reader
+pub mod Outcome
 pub mod Laws
+pub mod inside

@@ -1,5 +1,5 @@
 -- Patterns of words: which lists of words a unit may be. A format gives each of its words a sort, as a keyword or a kind of word.
-use Rattle.std.specs.Prelude.{◌≡◌, ◌⊎◌, Bool, true, List, [], ◌∷◌, ◌++◌}
+use Rattle.std.specs.Prelude.{Bool, List, [], ◌∷◌, ◌++◌, ◌≡◌, ◌⊎◌, true}
 use Rattle.std.specs.List.{AllByRecursion}
 
 pub data Pattern (S : Type 0) : Type 0 where

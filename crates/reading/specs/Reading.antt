@@ -1,8 +1,8 @@
 -- What it is to read a text: lists of whole units, starts, faults and refusals.
-use Rattle.std.specs.Prelude.{◌≡◌, ℕ, ◌+◌, ◌<◌, ◌≤◌, List, [], ◌∷◌, ◌++◌, length, take, Option, Some}
+use Rattle.std.specs.Prelude.{◌≡◌, ℕ, ◌+◌, ◌<◌, ◌≤◌, Bool, true, List, [], ◌∷◌, ◌++◌, length, take, Option, Some}
 use Rattle.reading.specs.Pattern.{Pattern, Matches, Begins, joined}
-use Rattle.text_lex.specs.declared.word.LexError.{LexError}
 use Rattle.reading.specs.declared.refusal.Found.{Found}
+use Rattle.text_lex.specs.declared.word.LexError.{LexError}
 use Rattle.reading.specs.declared.refusal.Cause.{Cause}
 use Rattle.reading.specs.declared.refusal.Cause.TheVariants.{Syntax, Lex, Fault}
 
@@ -15,6 +15,8 @@ pub record Format (W S K : Type 0) : Type 1 where
   -- Behind these units, the last of the open unit's words so far shows this fault. Where there are several, it is the one at the
   -- earliest word, and there the first in the order of the kinds. A sign, a range or a count that a pattern leaves out is a fault too.
   pub fault : List (List W) → List W → Found K → Type 0
+  -- Whether these units end the text: nothing after them is read, whatever bytes follow.
+  pub ends : List (List W) → Bool
 
 -- The words of the open unit show no fault.
 abbrev pub IsFine : {W S K : Type 0} → Format W S K → List (List W) → List W → Type 0
@@ -74,3 +76,18 @@ pub record IsOrderly {W S K : Type 0} (f : Format W S K) : Type 0 where
       Begins (f.sort units) (f.follow units) part → f.fault units part a → a.at < length part
   pub order : (units : List (List W)) (part more : List W) (a b : Found K) → Begins (f.sort units) (f.follow units) (part ++ more) →
       f.fault units part a → f.fault units (part ++ more) b → (a.at ≤ b.at) × (a.at ≡ b.at → b.kind ≡ a.kind)
+
+-- These units stand at the front of the text, and end it.
+pub record IsEnding {W S K : Type 0} (f : Format W S K) (text : Text W) (units : List (List W)) : Type 0 where
+  pub whole : Follows f [] units
+  pub ends : f.ends units ≡ true
+  pub rest : List W
+  pub is : text.words ≡ joined units ++ rest
+
+-- The text goes on behind its word that has n words before it: all units that end it have more words.
+abbrev pub GoesPast : {W S K : Type 0} → Format W S K → Text W → ℕ → Type 0
+GoesPast {W} f text n = (units : List (List W)) → IsEnding f text units → n < length (joined units)
+
+-- No fewer words of the text are units that end it.
+abbrev pub EndsFirst : {W S K : Type 0} → Format W S K → Text W → List (List W) → Type 0
+EndsFirst {W} f text units = (others : List (List W)) → IsEnding f text others → length (joined units) ≤ length (joined others)

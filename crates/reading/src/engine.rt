@@ -1,10 +1,12 @@
 //! The one engine that reads the texts of all formats.
 ghost use Rattle.std.specs.Prelude.{◌≡◌, ◌<◌, ◌∷◌, ◌++◌, List, [], IfOk, OnOk, length, map, None, Some};
-ghost use Rattle.reading.specs.Words.{Token, token, place_in, IsWhole};
-ghost use Rattle.reading.specs.Graph.{Grown, Leaves};
-ghost use Rattle.reading.specs.Standing.{IsStanding};
-ghost use Rattle.reading.specs.Grammar.{IsReady, IsOpen, StartsAt, Stands, StandsAt};
-ghost use Rattle.reading.specs.Taking.{Takes, part_behind, Gives};
+ghost use Rattle.reading.specs.Word.{Token, token, place_in, end_at, next_on_line};
+ghost use Rattle.reading.specs.Source.{IsWhole};
+ghost use Rattle.reading.specs.inside.Patterns.{Grown, Leaves, IsStanding};
+ghost use Rattle.reading.specs.inside.Machine.{IsReady};
+ghost use Rattle.reading.specs.inside.Engine.{OpensUnit, StartsAt, Stands, StandsAt, part_after, ends_by, Finishes};
+ghost use Rattle.reading.specs.Reader.{Takes};
+ghost use Rattle.reading.specs.Outcome.{Gives};
 
 use crate::grammar::Grammar;
 use crate::machine::{Machine, Rest};
@@ -13,7 +15,7 @@ use crate::patterns::Standing;
 use crate::refusal::{Cause, Refusal};
 use crate::source::Source;
 use crate::stop::{Step, Stop, refused};
-use crate::word::Word;
+use crate::word::{Form, Word};
 use outside::Place;
 use std::alloc::{AllocError, Global};
 
@@ -84,7 +86,7 @@ where
     G::Sort: 'a,
     requires ready { IsReady G.Sort.number G.Section.number G.pattern machine.old }
     requires within { machine.old.at < length machine.old.patterns.nodes.items }
-    requires stands { IsOpen G.Sort.number G.pattern (G.format grammar.now) (G.holds grammar.now said.old) machine.old.patterns.nodes.items machine.old.at (map token unit.now) sort }
+    requires stands { OpensUnit G.Sort.number G.pattern (G.format grammar.now) (G.holds grammar.now said.old) machine.old.patterns.nodes.items machine.old.at (map token unit.now) sort }
     ensures ready { OnOk result (IsReady G.Sort.number G.Section.number G.pattern machine.new) }
     ensures within { OnOk result (machine.new.at < length machine.new.patterns.nodes.items) }
     ensures takes { (units : List (List Token)) (part : List Token) (w : Token) → map token unit.now ≡ part ++ w ∷ [] → sort ≡ (G.format grammar.now).sort units w →
@@ -133,7 +135,7 @@ where
     requires stands { Stands G.Sort.number G.pattern (G.format grammar.now) (G.holds grammar.now said.old) machine.old.patterns.nodes.items machine.old.at (map token unit.old.items) }
     ensures ready { OnOk result (IsReady G.Sort.number G.Section.number G.pattern machine.new) }
     ensures within { OnOk result (machine.new.at < length machine.new.patterns.nodes.items) }
-    ensures unit { IfOk result (λ step. map token unit.new.items ≡ part_behind step (map token unit.old.items ++ token word.entry ∷ [])) }
+    ensures unit { IfOk result (λ step. map token unit.new.items ≡ part_after step (map token unit.old.items ++ token word.entry ∷ [])) }
     ensures takes { (units : List (List Token)) →
         StandsAt G.Sort.number G.pattern (G.format grammar.now) (G.holds grammar.now said.old) machine.old.patterns.nodes.items machine.old.at units (map token unit.old.items) →
         Takes (G.format grammar.now) (StandsAt G.Sort.number G.pattern (G.format grammar.now) (G.holds grammar.now said.new) machine.new.patterns.nodes.items machine.new.at)
@@ -154,11 +156,65 @@ where
 
 /// Empties the open unit where it is whole.
 fn empty_if(unit: &mut Vec<Word<'_>>, done: Step)
-    ensures { map token unit.new.items ≡ part_behind done (map token unit.old.items) }
+    ensures { map token unit.new.items ≡ part_after done (map token unit.old.items) }
 {
     match done {
         Step::Open => {}
         Step::Whole => unit.clear(),
+    }
+}
+
+/// The end of a text, one word after the one at the place.
+fn end_after(place: Place) -> Word<'static>
+    ensures { token result ≡ end_at (next_on_line place) }
+{
+    Word {
+        text: &[],
+        place: Place {
+            line: place.line,
+            word: place.word.saturating_add(1),
+        },
+        form: Form::End,
+    }
+}
+
+/// Whether the units have ended the text with this word.
+fn has_ended<'a, G: Grammar<'a>>(grammar: &G, said: &G::Record, done: Step) -> bool
+    ensures { (units : List (List Token)) → G.holds grammar.now said.now units →
+        ends_by done ((G.format grammar.now).ends units) ≡ result }
+{
+    match done {
+        Step::Open => false,
+        Step::Whole => grammar.ends(said),
+    }
+}
+
+/// Reads the end of a text that its units have ended, as its last word.
+fn finish<'a, G: Grammar<'a>>(
+    machine: &mut Machine,
+    grammar: &G,
+    said: &mut G::Record,
+    unit: &mut Vec<Word<'a>>,
+    end: Word<'a>,
+) -> Result<(), Refusal<G::Kind>>
+where
+    G::Sort: 'a,
+    requires ready { IsReady G.Sort.number G.Section.number G.pattern machine.old }
+    requires within { machine.old.at < length machine.old.patterns.nodes.items }
+    requires stands { Stands G.Sort.number G.pattern (G.format grammar.now) (G.holds grammar.now said.old)
+        machine.old.patterns.nodes.items machine.old.at (map token unit.old.items) }
+    ensures { (units : List (List Token)) →
+        StandsAt G.Sort.number G.pattern (G.format grammar.now) (G.holds grammar.now said.old)
+            machine.old.patterns.nodes.items machine.old.at units (map token unit.old.items) →
+        Finishes (G.format grammar.now)
+            (StandsAt G.Sort.number G.pattern (G.format grammar.now) (G.holds grammar.now said.new)
+                machine.new.patterns.nodes.items machine.new.at)
+            units (map token unit.old.items) (token end.entry) result }
+{
+    let place = end.place;
+    match advance(machine, grammar, said, unit, end) {
+        Ok(_) => Ok(()),
+        Err(stop) => Err(refused(place, stop)),
     }
 }
 
@@ -193,9 +249,12 @@ where
             Err(error) => return Err(Refusal::At(error.place, Cause::Lex(error.kind))),
         };
         let place = word.place;
-        match advance(&mut machine, grammar, said, &mut unit, word) {
-            Ok(_) => {}
+        let done = match advance(&mut machine, grammar, said, &mut unit, word) {
+            Ok(done) => done,
             Err(stop) => return Err(refused(place, stop)),
+        };
+        if has_ended(grammar, said, done) {
+            return finish(&mut machine, grammar, said, &mut unit, end_after(place));
         }
     }
 }

@@ -1,8 +1,8 @@
 ghost use Rattle.std.specs.Prelude.{◌≡◌, ◌∷◌, ◌++◌, List, [], Option, OnOk, map};
 ghost use Rattle.reading.specs.Pattern.{Pattern};
 ghost use Rattle.reading.specs.Reading.{Format};
-ghost use Rattle.reading.specs.Words.{Token, token};
-ghost use Rattle.reading.specs.Graph.{IsRule};
+ghost use Rattle.reading.specs.Word.{Token, token};
+ghost use Rattle.reading.specs.Rule.{IsRule};
 ghost use Rattle.reading.specs.Grammar.{IsRegular, IsTaken, Shows};
 
 use crate::numbered::Numbered;
@@ -44,6 +44,11 @@ pub trait Grammar<'a> {
     /// The fault that the last of the unit's words so far shows.
     fn fault(&self, said: &Self::Record, unit: &[Word<'a>]) -> Option<Found<Self::Kind>>
         ensures { (units : List (List Token)) → holds self.now said.now units → Shows (format self.now) units (map token unit.now) result };
+
+    /// Whether the units so far have ended the text: nothing after them is read, whatever bytes follow, and the end of the text
+    /// stands one word after the last one.
+    fn ends(&self, said: &Self::Record) -> bool
+        ensures { (units : List (List Token)) → holds self.now said.now units → result ≡ (format self.now).ends units };
 
     /// Takes into the record what a whole unit says.
     fn take(&self, said: &mut Self::Record, unit: &[Word<'a>]) -> Result<(), AllocError>

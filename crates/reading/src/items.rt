@@ -1,8 +1,10 @@
 //! The words of the bytes of a text as a format sees them.
 ghost use Rattle.std.specs.Prelude.{◌≡◌, [], List, ℕ, IfErr};
 ghost use Rattle.reading.specs.Reading.{Text};
-ghost use Rattle.reading.specs.Words.{Token, token, form_of, end_at as end_token, word_of, left_of, Steps};
-ghost use Rattle.reading.specs.Taking.{Reads, FitsMode};
+ghost use Rattle.reading.specs.Word.{Token, token, form_of, end_at as end_token, word_of};
+ghost use Rattle.reading.specs.inside.Items.{words_to_come};
+ghost use Rattle.reading.specs.Source.{Steps};
+ghost use Rattle.reading.specs.Outcome.{Reads, FitsMode};
 ghost use Rattle.text_lex.specs.Split.{token_of};
 
 use crate::engine::read_words;
@@ -56,7 +58,7 @@ fn end_at(place: Place) -> Word<'static>
 }
 
 impl<'a> Source<'a> for Items<'a> {
-    ghost left = { λ i. left_of i.ended i.words };
+    ghost left = { λ i. words_to_come i.ended i.words };
 
     // Into each reader of a program, whose mode it then knows.
     #[inline(always)]

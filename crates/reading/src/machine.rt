@@ -1,7 +1,7 @@
 //! The tables of the engine: the patterns of a format's sections, and what is left of a pattern behind a word, once it is known.
 ghost use Rattle.std.specs.Prelude.{◌≡◌, ◌+◌, ◌*◌, ◌<◌, ◌≤◌, ℕ, length, slice_get, Some, OnOk, IfOk, Option, List};
-ghost use Rattle.reading.specs.Grammar.{IsUnknown, TellsNoMore, KeepsOthers, Notes, HasRows};
-ghost use Rattle.reading.specs.Graph.{IsGraph};
+ghost use Rattle.reading.specs.inside.Machine.{IsUnknown, TellsNoMore, KeepsOthers, Notes, HasRows};
+ghost use Rattle.reading.specs.inside.Patterns.{IsGraph};
 
 use crate::patterns::{Patterns, Standing};
 use std::alloc::{AllocError, Global};

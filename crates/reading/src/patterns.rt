@@ -1,9 +1,11 @@
 //! Patterns as nodes of one list, and what is left of one behind a word.
 ghost use Rattle.std.specs.Prelude.{◌≡◌, ◌≢◌, ◌<◌, IfOk, IsTrue, length, true, false};
 ghost use Rattle.reading.specs.Pattern.{Pattern, Never};
-ghost use Rattle.reading.specs.Left.{skips, seq, alt, left};
-ghost use Rattle.reading.specs.Standing.{IsStanding};
-ghost use Rattle.reading.specs.Graph.{IsGraph, PartsBelow, Placed, Joins, Leaves, Denotes, IsSet, among, IsWith, IsWithout, listed_in, Built};
+ghost use Rattle.reading.specs.Tests.{skips};
+ghost use Rattle.reading.specs.inside.Left.{seq, alt, left};
+ghost use Rattle.reading.specs.inside.Patterns.{IsStanding};
+ghost use Rattle.reading.specs.inside.Patterns.{IsGraph, PartsBelow, Placed, Joins, Leaves, Denotes, IsSet, among, IsWith, IsWithout, Built};
+ghost use Rattle.reading.specs.Rule.{listed_in};
 
 use crate::numbered::Numbered;
 use crate::rule::Rule;

@@ -1,15 +1,17 @@
 //! Readers that are written by hand, for formats that the engine is too slow for. They meet the same theorem.
-ghost use Rattle.std.specs.Prelude.{◌≡◌, List, []};
+ghost use Rattle.std.specs.Prelude.{◌≡◌, List, [], false};
 ghost use Rattle.reading.specs.Reading.{Format, IsOrderly};
-ghost use Rattle.reading.specs.Words.{Token, token, IsWhole};
-ghost use Rattle.reading.specs.Taking.{Takes, Gives};
+ghost use Rattle.reading.specs.Word.{Token, token};
+ghost use Rattle.reading.specs.Source.{IsWhole};
+ghost use Rattle.reading.specs.Reader.{Takes};
+ghost use Rattle.reading.specs.Outcome.{Gives};
 
 use crate::refusal::{Cause, Refusal};
 use crate::source::Source;
 use crate::stop::{Step, Stop, refused};
 use crate::word::Word;
 
-/// What reads the words of a format one after the other.
+/// What reads the words of a format one after the other, whose texts end with their bytes.
 pub trait Reader<'a> {
     /// The sorts of the words.
     type Sort;
@@ -24,9 +26,10 @@ pub trait Reader<'a> {
     fn take(&mut self, word: &Word<'a>) -> Result<Step, Stop<Self::Kind>>
         ensures { (units : List (List Token)) (part : List Token) → stands self.old units part → Takes format (stands self.new) units part (token word.now) result };
 
-    /// The law that the format owes. It does nothing.
+    /// The laws that the format owes: its faults are in order, and its texts end with their bytes. It does nothing.
     fn orderly(&self)
-        ensures { IsOrderly format };
+        ensures orderly { IsOrderly format }
+        ensures never_ends { (units : List (List Token)) → format.ends units ≡ false };
 }
 
 /// Reads the words of a text, or says at which word the text is refused, and why.

@@ -1,5 +1,6 @@
 ghost use Rattle.reading.specs.Reading.{Text};
-ghost use Rattle.reading.specs.Words.{Token, Steps};
+ghost use Rattle.reading.specs.Word.{Token};
+ghost use Rattle.reading.specs.Source.{Steps};
 
 use crate::word::Word;
 use text_lex::LexError;

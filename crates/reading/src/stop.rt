@@ -1,4 +1,4 @@
-ghost use Rattle.reading.specs.Taking.{Names};
+ghost use Rattle.reading.specs.inside.Engine.{Names};
 
 use crate::refusal::{Cause, Refusal};
 use outside::Place;

@@ -1,6 +1,6 @@
 use Rattle.std.proofs.Common.{rules, ◌≡◌, sym, ◌∙◌, ◌<◌, length, map, arith}
 use Rattle.std.proofs.lemmas.List.{length-map}
-use Rattle.reading.specs.Words.{token}
+use Rattle.reading.specs.Word.{token}
 use Rattle.reading.specs.declared.patterns.Standing.TheVariants.{Nowhere, Open}
 use Rattle.reading.proofs.Standing.{never-by, some-by, goes_on-by, whole-by}
 use Rattle.reading.proofs.Stepping.{before, step-syntax, step-begins, step-fault, fault-within, step-open, step-whole}

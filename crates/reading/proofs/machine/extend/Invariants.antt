@@ -1,5 +1,5 @@
 use Rattle.std.proofs.Common.{◌-◌, length}
-use Rattle.reading.specs.Grammar.{TellsNoMore}
+use Rattle.reading.specs.inside.Machine.{TellsNoMore}
 use Rattle.reading.proofs.machine.extend.Given as goal
 
 abbrev pub invariant-loop-table : goal.invariant-loop-table

@@ -1,5 +1,5 @@
 use Rattle.std.proofs.Common.{◌≡◌, length}
-use Rattle.reading.specs.Grammar.{IsUnknown}
+use Rattle.reading.specs.inside.Machine.{IsUnknown}
 use Rattle.reading.proofs.machine.unknown.Given as goal
 
 abbrev pub invariant-loop : goal.invariant-loop

@@ -1,6 +1,7 @@
 use Rattle.std.proofs.Common.{◌≡◌, ◌+◌, [], ◌∷◌, ◌++◌, take, subst, sym, ap, ◌∙◌}
 use Rattle.std.proofs.lemmas.List.{take_more}
-use Rattle.reading.specs.Graph.{IsSet, IsWith, listed_in}
+use Rattle.reading.specs.inside.Patterns.{IsSet, IsWith}
+use Rattle.reading.specs.Rule.{listed_in}
 use Rattle.reading.proofs.Bits.{set-more}
 use Rattle.reading.proofs.patterns.set_of.Goals as goal
 

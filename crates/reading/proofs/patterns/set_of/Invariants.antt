@@ -1,5 +1,6 @@
 use Rattle.std.proofs.Common.{take}
-use Rattle.reading.specs.Graph.{IsSet, listed_in}
+use Rattle.reading.specs.inside.Patterns.{IsSet}
+use Rattle.reading.specs.Rule.{listed_in}
 use Rattle.reading.proofs.patterns.set_of.Given as goal
 
 abbrev pub invariant-loop-sort : goal.invariant-loop-sort

@@ -1,5 +1,5 @@
 use Rattle.std.proofs.Common.{List, length}
-use Rattle.reading.specs.Words.{Token}
+use Rattle.reading.specs.Word.{Token}
 use Rattle.reading.proofs.Loop.{AtLoop}
 use Rattle.reading.proofs.reader.read_by_hand.Given as goal
 

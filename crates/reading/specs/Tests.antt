@@ -1,5 +1,5 @@
--- What is left of a pattern behind a word, and tests of patterns that a computation decides.
-use Rattle.std.specs.Prelude.{◌≡◌, ℕ, slice_get, Some, Bool, true, false, cond, not, ◌&&◌, ◌||◌, List, [], ◌∷◌}
+-- Tests of patterns, which a computation decides: that units end where their words say so.
+use Rattle.std.specs.Prelude.{Bool, true, false, ◌&&◌, ◌||◌, not, List, [], ◌∷◌, ◌≡◌, ℕ, slice_get, Some}
 use Rattle.reading.specs.Pattern.{Pattern, Never, Empty, One, Then, Or, Many}
 
 -- whether no words are of the pattern's
@@ -10,32 +10,6 @@ skips (One class) = false
 skips (Then p q) = skips p && skips q
 skips (Or p q) = skips p || skips q
 skips (Many p) = true
-
--- the first, then the second
-abbrev pub seq : {S : Type 0} → Pattern S → Pattern S → Pattern S
-seq Never q = Never
-seq Empty q = q
-seq p q = Then p q
-
--- the first or the second
-abbrev pub alt : {S : Type 0} → Pattern S → Pattern S → Pattern S
-alt Never q = q
-alt p Never = p
-alt p q = Or p q
-
--- what is left behind a word of the sort
-abbrev pub left : {S : Type 0} → S → Pattern S → Pattern S
-left s Never = Never
-left s Empty = Never
-left s (One class) = cond (class s) Empty Never
-left s (Then p q) = cond (skips p) (alt (seq (left s p) q) (left s q)) (seq (left s p) q)
-left s (Or p q) = alt (left s p) (left s q)
-left s (Many p) = seq (left s p) (Many p)
-
--- what is left behind words
-abbrev pub lefts : {W S : Type 0} → (W → S) → Pattern S → List W → Pattern S
-lefts sort p [] = p
-lefts sort p (w ∷ ws) = lefts sort (left (sort w) p) ws
 
 -- whether some words of the pattern begin with a word of the sort
 abbrev pub first : {S : Type 0} → S → Pattern S → Bool

@@ -1,10 +1,14 @@
--- Patterns in a list of nodes, each made of earlier ones.
-use Rattle.std.specs.Prelude.{◌≡◌, ℕ, ◌<◌, ◌/◌, ◌%◌, ◌^◌, Bool, false, not, ◌||◌, nat_eq, List, [], ◌∷◌, ◌++◌, length, slice_get, Some}
+-- Patterns in a list of nodes, each made of earlier ones, and how the open unit stands where one is left of its own.
+use Rattle.std.specs.Prelude.{ℕ, ◌<◌, ◌≡◌, List, slice_get, Some, ◌++◌, ◌/◌, ◌%◌, ◌^◌, Bool, nat_eq, ◌||◌, not, length, cond}
 use Rattle.reading.specs.declared.patterns.Node.{Node}
+use Rattle.reading.specs.Pattern.{Then, Or, Many, Pattern, Never, Empty, One}
+use Rattle.reading.specs.inside.Left.{left}
+use Rattle.reading.specs.declared.rule.Rule.{Rule}
+use Rattle.reading.specs.Rule.{IsRule}
+use Rattle.reading.specs.declared.patterns.Standing.{Standing}
+use Rattle.reading.specs.declared.patterns.Standing.TheVariants.{Nowhere, Open, Whole}
+use Rattle.reading.specs.Tests.{skips}
 use Rattle.reading.specs.declared.patterns.Node.TheVariants as nodes
-use Rattle.reading.specs.declared.rule.Rule.{Rule, Nothing as Nothing_rule, One as One_rule, Other as Other_rule, Then' as Then_rule, Or' as Or_rule, Many' as Many_rule}
-use Rattle.reading.specs.Left.{left}
-use Rattle.reading.specs.Pattern.{Pattern, Never, Empty, One, Then, Or, Many}
 
 -- the parts of the node stand before n
 abbrev pub PartsBelow : ℕ → Node → Type 0
@@ -68,22 +72,16 @@ pub record Leaves {S : Type 0} (number : S → ℕ) (sort : S) (old new : List N
   pub grown : Grown old new rest
   pub is : (p : Pattern S) → Denotes number old at p → Denotes number new rest (left sort p)
 
--- whether the sort is one of these
-abbrev pub listed_in : {S : Type 0} → (S → ℕ) → List S → S → Bool
-listed_in number [] sort = false
-listed_in number (s ∷ sorts) sort = nat_eq (number s) (number sort) || listed_in number sorts sort
-
--- The rule, as a format's source has it, is the pattern.
-abbrev pub IsRule : {S : Type 0} → (S → ℕ) → Rule S → Pattern S → Type 0
-IsRule number Nothing_rule Never = Unit {0}
-IsRule {S} number (One_rule sorts) (One class) = (s : S) → listed_in number sorts.now s ≡ class s
-IsRule {S} number (Other_rule sorts) (One class) = (s : S) → not (listed_in number sorts.now s) ≡ class s
-IsRule number (Then_rule a x b y) (Then p q) = IsRule number x p × IsRule number y q
-IsRule number (Or_rule a x b y) (Or p q) = IsRule number x p × IsRule number y q
-IsRule number (Many_rule a x) (Many p) = IsRule number x p
-IsRule number rule p = ⊥
-
 -- What building the pattern of a rule leads to: old ones stay, and the new one is there.
 pub record Built {S : Type 0} (number : S → ℕ) (rule : Rule S) (old new : List Node) (at : ℕ) : Type 0 where
   pub grown : Grown old new at
   pub is : (p : Pattern S) → IsRule number rule p → Denotes number new at p
+
+-- where this is left
+abbrev pub standing_of : {S : Type 0} → Pattern S → Standing
+standing_of Never = Nowhere
+standing_of p = cond (skips p) Whole Open
+
+-- where the pattern of the node is left
+abbrev pub IsStanding : {S : Type 0} → (S → ℕ) → List Node → ℕ → Standing → Type 0
+IsStanding {S} number nodes at standing = (p : Pattern S) → Denotes number nodes at p → standing ≡ standing_of p

@@ -5,7 +5,7 @@ use Rattle.std.proofs.Math.Path.{fun_ext}
 use Rattle.std.proofs.lemmas.Bool.{cases_lt}
 use Rattle.outside.specs.declared.calls.Tally.{Tally}
 use Rattle.outside.specs.Calls.{CallsInMemory, IsCounted, IsUncounted, FailsNext, CountsNone, CountsRead, CountsWrite, no_calls, tally_under, made_on, counts_of}
-use Rattle.outside.specs.Counts.{FaultCounts, raised, last_count, Rose, NoneFalls}
+use Rattle.outside.specs.Counts.{ChangesReads, ChangesWrites, FaultCounts, raised, last_count, Rose, NoneFalls}
 use Rattle.outside.specs.Entries.{Assigns}
 use Rattle.outside.specs.inside.Entries.{IsFirstPlace, IsAbsent}
 use Rattle.outside.proofs.Listed.{by_name, value_under-present, value_under-absent, value_under-set_named, value_under-set_other, value_under-push_named, value_under-push_other}
@@ -175,3 +175,16 @@ module _ (name : List ℕ) (old mid : CallsInMemory) (room : IsUncounted old mid
 
   pub fails_still : FailsNext old name → FailsNext mid name
   fails_still fails = subst (λ (T : Type 0). T) (sym same_next) fails
+
+-- Where no count changes, none of another name does.
+pub only_same : (name : List ℕ) (old new : FaultCounts) → new ≡ old → ChangesReads name old new × ChangesWrites name old new
+only_same name old new same = (
+  record { reads = λ other _. ap (λ (c : FaultCounts). c.reads other) same; writes = ap (λ (c : FaultCounts). c.writes) same },
+  record { reads = ap (λ (c : FaultCounts). c.reads) same; writes = λ other _. ap (λ (c : FaultCounts). c.writes other) same },
+)
+
+pub only_read : (name : List ℕ) (old new : FaultCounts) → CountsRead name old new → ChangesReads name old new
+only_read name old new counts = record { reads = counts.reads.others; writes = counts.writes }
+
+pub only_write : (name : List ℕ) (old new : FaultCounts) → CountsWrite name old new → ChangesWrites name old new
+only_write name old new counts = record { reads = counts.reads; writes = counts.writes.others }

@@ -1,5 +1,5 @@
 -- Counts of the calls on the outside that failed.
-use Rattle.std.specs.Prelude.{◌≡◌, ◌⊎◌, ℕ, ◌+◌, ◌-◌, ◌^◌, ◌<◌, ◌≤◌, min, List}
+use Rattle.std.specs.Prelude.{◌≡◌, ◌≢◌, ◌⊎◌, ℕ, ◌+◌, ◌-◌, ◌^◌, ◌<◌, ◌≤◌, min, List}
 
 -- The last value of a count: there it stands still.
 abbrev pub last_count : ℕ
@@ -31,3 +31,13 @@ pub record NoneFalls (old new : FaultCounts) : Type 0 where
   pub faults : old.faults ≤ new.faults
   pub reads : (name : List ℕ) → old.reads name ≤ new.reads name
   pub writes : (name : List ℕ) → old.writes name ≤ new.writes name
+
+-- No count by name changes but that of the reads of this name.
+pub record ChangesReads (name : List ℕ) (old new : FaultCounts) : Type 0 where
+  pub reads : (other : List ℕ) → other ≢ name → new.reads other ≡ old.reads other
+  pub writes : new.writes ≡ old.writes
+
+-- No count by name changes but that of the creates and appends on this name.
+pub record ChangesWrites (name : List ℕ) (old new : FaultCounts) : Type 0 where
+  pub reads : new.reads ≡ old.reads
+  pub writes : (other : List ℕ) → other ≢ name → new.writes other ≡ old.writes other

@@ -1,6 +1,6 @@
 // Calls on files in memory: which of them fail, and what is counted of them.
 ghost use Rattle.std.specs.Prelude.{◌≡◌, ◌↔◌, ◌<◌, ◌≤◌, ℕ, List, [], length, Contains, IsTrue, IfOk, OnOk, IsErrOf};
-ghost use Rattle.outside.specs.Counts.{NoneFalls, Rose, raised};
+ghost use Rattle.outside.specs.Counts.{ChangesWrites, NoneFalls, Rose, raised};
 ghost use Rattle.outside.specs.Calls.{FailsNext, IsCounted, IsUncounted, CountsNone, CountsRead, CountsWrite, counts_of};
 ghost use Rattle.outside.specs.inside.Entries.{IsFirstPlace};
 
@@ -91,6 +91,7 @@ impl Calls {
             → Rose ((counts_of self.old).writes name.now) ((counts_of self.new).writes name.now) }
         ensures uncounted { IsErrOf result Refusal.Want → IsUncounted self.old self.new }
         ensures none_falls { NoneFalls (counts_of self.old) (counts_of self.new) }
+        ensures only { ChangesWrites name.now (counts_of self.old) (counts_of self.new) }
     {
         let place = self.place(name)?;
         if self.fails_next(name, place) {

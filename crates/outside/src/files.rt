@@ -1,6 +1,6 @@
 // Files as the program sees them: what a call may do to them, and the counts of what failed.
 ghost use Rattle.std.specs.Prelude.{◌≡◌, ◌≤◌, ◌<◌, List, ℕ, length, Option, IfOk, IfSome, OnOk, OnErr, OnSome, IsErrOf};
-ghost use Rattle.outside.specs.Counts.{FaultCounts, NoneFalls, Rose};
+ghost use Rattle.outside.specs.Counts.{ChangesReads, ChangesWrites, FaultCounts, NoneFalls, Rose};
 ghost use Rattle.outside.specs.Known.{WhereKnown};
 ghost use Rattle.outside.specs.Files.{Holdings, bytes_in, IsReadAt, MakesEmpty, Appends};
 
@@ -45,9 +45,10 @@ pub trait Files {
         ensures read { IfOk result
             (λ n. IfSome (known self.old) (λ held. IsReadAt (bytes_in held name.now) at n into.new)) }
 
-        // A call that is not refused counts no fault, and one that failed counts one.
+        // A call that is not refused counts no fault, one that failed counts one, and no other name is touched.
         ensures calm { OnOk result (counts self.new ≡ counts self.old) }
         ensures none_falls { NoneFalls (counts self.old) (counts self.new) }
+        ensures only { ChangesReads name.now (counts self.old) (counts self.new) }
         ensures failed { IsErrOf result Refusal.Failed → Rose (counts self.old).faults (counts self.new).faults }
         ensures failed_read { IsErrOf result Refusal.Failed
             → OnSome (known self.old) (Rose ((counts self.old).reads name.now) ((counts self.new).reads name.now)) };
@@ -57,9 +58,10 @@ pub trait Files {
         ensures created { OnOk result (WhereKnown (MakesEmpty name.now) (known self.old) (known self.new)) }
         ensures kept { OnErr result (known self.new ≡ known self.old) }
 
-        // A call that is not refused counts no fault, and one that failed counts one.
+        // A call that is not refused counts no fault, one that failed counts one, and no other name is touched.
         ensures calm { OnOk result (counts self.new ≡ counts self.old) }
         ensures none_falls { NoneFalls (counts self.old) (counts self.new) }
+        ensures only { ChangesWrites name.now (counts self.old) (counts self.new) }
         ensures failed { IsErrOf result Refusal.Failed → Rose (counts self.old).faults (counts self.new).faults }
         ensures failed_write { IsErrOf result Refusal.Failed
             → OnSome (known self.old) (Rose ((counts self.old).writes name.now) ((counts self.new).writes name.now)) };
@@ -72,9 +74,10 @@ pub trait Files {
         ensures within { IfOk result (λ n. n ≤ length piece.now) }
         ensures some { IfOk result (λ n. 0 < length piece.now → 0 < n) }
 
-        // A call that is not refused counts no fault, and one that failed counts one.
+        // A call that is not refused counts no fault, one that failed counts one, and no other name is touched.
         ensures calm { OnOk result (counts self.new ≡ counts self.old) }
         ensures none_falls { NoneFalls (counts self.old) (counts self.new) }
+        ensures only { ChangesWrites name.now (counts self.old) (counts self.new) }
         ensures failed { IsErrOf result Refusal.Failed → Rose (counts self.old).faults (counts self.new).faults }
         ensures failed_write { IsErrOf result Refusal.Failed
             → OnSome (known self.old) (Rose ((counts self.old).writes name.now) ((counts self.new).writes name.now)) };

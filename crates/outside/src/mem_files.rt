@@ -1,7 +1,7 @@
 // Files in memory, of which some calls fail.
 ghost use Rattle.std.specs.Prelude.{◌≡◌, ◌≢◌, ◌⊎◌, ◌-◌, [], length, map, min, MatchOption, Some, None, IfOk, OnOk, OnErr, IsErrOf};
 ghost use Rattle.outside.specs.Calls.{FailsNext, IsCounted, IsUncounted, CountsNone, CountsRead, CountsWrite, counts_of};
-ghost use Rattle.outside.specs.Counts.{NoneFalls, Rose};
+ghost use Rattle.outside.specs.Counts.{ChangesReads, ChangesWrites, NoneFalls, Rose};
 ghost use Rattle.outside.specs.Directory.{stored};
 ghost use Rattle.outside.specs.Entries.{value_under};
 ghost use Rattle.outside.specs.Files.{bytes_in, IsReadAt, MakesEmpty, Appends};
@@ -84,6 +84,7 @@ impl Files for MemFiles {
 
         ensures calm { OnOk result (counts_of self.new.calls ≡ counts_of self.old.calls) }
         ensures none_falls { NoneFalls (counts_of self.old.calls) (counts_of self.new.calls) }
+        ensures only { ChangesReads name.now (counts_of self.old.calls) (counts_of self.new.calls) }
         ensures failed { IsErrOf result Refusal.Failed → Rose self.old.calls.faults self.new.calls.faults }
         ensures failed_read { IsErrOf result Refusal.Failed
             → Rose ((counts_of self.old.calls).reads name.now) ((counts_of self.new.calls).reads name.now) }
@@ -117,6 +118,7 @@ impl Files for MemFiles {
 
         ensures calm { OnOk result (counts_of self.new.calls ≡ counts_of self.old.calls) }
         ensures none_falls { NoneFalls (counts_of self.old.calls) (counts_of self.new.calls) }
+        ensures only { ChangesWrites name.now (counts_of self.old.calls) (counts_of self.new.calls) }
         ensures failed { IsErrOf result Refusal.Failed → Rose self.old.calls.faults self.new.calls.faults }
         ensures failed_write { IsErrOf result Refusal.Failed
             → Rose ((counts_of self.old.calls).writes name.now) ((counts_of self.new.calls).writes name.now) }
@@ -145,6 +147,7 @@ impl Files for MemFiles {
 
         ensures calm { OnOk result (counts_of self.new.calls ≡ counts_of self.old.calls) }
         ensures none_falls { NoneFalls (counts_of self.old.calls) (counts_of self.new.calls) }
+        ensures only { ChangesWrites name.now (counts_of self.old.calls) (counts_of self.new.calls) }
         ensures failed { IsErrOf result Refusal.Failed → Rose self.old.calls.faults self.new.calls.faults }
         ensures failed_write { IsErrOf result Refusal.Failed
             → Rose ((counts_of self.old.calls).writes name.now) ((counts_of self.new.calls).writes name.now) }

@@ -1,6 +1,6 @@
 // Whole texts in and out.
 ghost use Rattle.std.specs.Prelude.{◌≡◌, ◌≤◌, ◌<◌, ◌+◌, vec_len, length, IfOk, IfSome, OnOk, OnErr, OnSome, IsErrOf, take};
-ghost use Rattle.outside.specs.Counts.{NoneFalls, Rose};
+ghost use Rattle.outside.specs.Counts.{ChangesReads, NoneFalls, Rose};
 ghost use Rattle.outside.specs.Known.{WhereKnown};
 ghost use Rattle.outside.specs.Files.{bytes_in};
 ghost use Rattle.outside.specs.Sink.{Adds, AddsSome};
@@ -102,9 +102,10 @@ pub fn read_whole<F: Files>(
         → OnSome (F.known files.old)
         (Rose ((F.counts files.old).reads name.now) ((F.counts files.new).reads name.now)) }
 
-    // No file changes. No count falls, and none changes where the file was read or is too long.
+    // No file changes. No count falls, none of another name changes, and none at all where the file was read or is too long.
     ensures kept { F.known files.new ≡ F.known files.old }
     ensures none_falls { NoneFalls (F.counts files.old) (F.counts files.new) }
+    ensures only { ChangesReads name.now (F.counts files.old) (F.counts files.new) }
     ensures calm { OnOk result (F.counts files.new ≡ F.counts files.old) }
     ensures calm_too_long { IsErrOf result ReadError.TooLong → F.counts files.new ≡ F.counts files.old }
 {

@@ -2,7 +2,7 @@ use Rattle.std.proofs.Common.{◌≡◌, ℕ, List, Some, None, inl, inr, sym, �
 use Rattle.outside.specs.Calls.{CallsInMemory, IsUncounted, CountsNone, CountsRead}
 use Rattle.outside.specs.Entries.{value_under}
 use Rattle.outside.specs.MemFiles.{FilesInMemory}
-use Rattle.outside.proofs.Tallies.{counted_after, none_falls_after, none_falls_same, fails_before, fails_still, read_rose}
+use Rattle.outside.proofs.Tallies.{only_same, only_read, counted_after, none_falls_after, none_falls_same, fails_before, fails_still, read_rose}
 use Rattle.outside.proofs.mem_files.MemFilesFiles.read_at.Goals as goal
 use Rattle.outside.proofs.mem_files.MemFilesFiles.read_at.Goals.{then-not-fails_next+in_default, else-not-fails_next}
 
@@ -71,3 +71,21 @@ returns-clause-failed_read c =
     let calls : c.self.inside.calls ≡ c.args.self.now.calls = ap (λ (files : FilesInMemory). files.calls) c.self.view_is in
     let room : IsUncounted c.args.self.now.calls c.place.new.self = subst (λ (calls : CallsInMemory). IsUncounted calls c.place.new.self) calls c.in_ok-place.ensures.uncounted in
     λ _. (read_rose c.args.name.now _ _ (counted_after c.args.name.now c.args.self.now.calls c.place.new.self room c.count_failed_read.new.self (CountsRead c.args.name.now) (c.count_failed_read.ensures.counted c.args.name.now (c.in_ok-place.ensures.place))).counts).1
+
+pub returns-in_err-place-clause-only : goal.returns-in_err-place-clause-only
+returns-in_err-place-clause-only c =
+    let calls : c.self.inside.calls ≡ c.args.self.now.calls = ap (λ (files : FilesInMemory). files.calls) c.self.view_is in
+    let room : IsUncounted c.args.self.now.calls c.place.new.self = subst (λ (calls : CallsInMemory). IsUncounted calls c.place.new.self) calls c.in_err-place.ensures.uncounted in
+    (only_same c.args.name.now _ _ room.counts).0
+
+pub returns-in-Some-clause-only : goal.returns-in-Some-clause-only
+returns-in-Some-clause-only c =
+    let calls : c.self.inside.calls ≡ c.args.self.now.calls = ap (λ (files : FilesInMemory). files.calls) c.self.view_is in
+    let room : IsUncounted c.args.self.now.calls c.place.new.self = subst (λ (calls : CallsInMemory). IsUncounted calls c.place.new.self) calls c.in_ok-place.ensures.uncounted in
+    (only_same c.args.name.now _ _ (counted_after c.args.name.now c.args.self.now.calls c.place.new.self room c.count.new.self CountsNone (c.count.ensures c.args.name.now (c.in_ok-place.ensures.place))).counts).0
+
+pub returns-clause-only : goal.returns-clause-only
+returns-clause-only c =
+    let calls : c.self.inside.calls ≡ c.args.self.now.calls = ap (λ (files : FilesInMemory). files.calls) c.self.view_is in
+    let room : IsUncounted c.args.self.now.calls c.place.new.self = subst (λ (calls : CallsInMemory). IsUncounted calls c.place.new.self) calls c.in_ok-place.ensures.uncounted in
+    only_read c.args.name.now _ _ (counted_after c.args.name.now c.args.self.now.calls c.place.new.self room c.count_failed_read.new.self (CountsRead c.args.name.now) (c.count_failed_read.ensures.counted c.args.name.now (c.in_ok-place.ensures.place))).counts

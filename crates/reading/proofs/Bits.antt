@@ -49,6 +49,6 @@ pub set-more : {S : Type 0} (number : S → ℕ) (xs : List S) (x : S) (old new 
     IsSet number new (listed_in number (xs ++ x ∷ []))
 set-more number xs x old new h w = λ s. w (number s) ∙ ap (λ z. nat_eq (number x) (number s) || z) (h s) ∙ sym (listed-more number xs x s)
 
--- the number of a value of a type with at most 64
+-- The number of a value of a type with at most 64.
 pub number-below : {S : Type 0} (number : S → ℕ) (all : List S) (s : S) → slice_get all (number s) ≡ Some s → length all ≤ 64 → number s < 64
 number-below number all s h few = let w : number s < length all = slice_get_within all (number s) s h in omega arith

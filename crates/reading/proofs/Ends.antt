@@ -1,10 +1,10 @@
 -- Units that end a text, and what of the text is read.
-use Rattle.std.proofs.Common.{◌≡◌, ℕ, ◌+◌, ◌-◌, ◌<◌, ◌≤◌, Bool, true, false, List, [], ◌∷◌, ◌++◌, length, take, drop, refl, sym, ◌∙◌, ap, subst, append_assoc, arith, length-append, inl, inr}
+use Rattle.std.proofs.Common.{◌≡◌, ℕ, ◌+◌, ◌<◌, ◌≤◌, Bool, true, false, List, [], ◌∷◌, ◌++◌, length, take, refl, sym, ◌∙◌, ap, subst, append_assoc, arith, length-append, inl, inr}
 use Rattle.std.proofs.lemmas.List.{append-nil, take-append-le}
 use Rattle.std.proofs.lemmas.Bool.{cases_lt}
 use Rattle.reading.specs.Pattern.{Matches, joined}
-use Rattle.reading.specs.Reading.{Format, Text, Follows, Start, IsStart, HasFault, IsEnding, GoesPast, EndsFirst}
-use Rattle.reading.proofs.Run.{Run, compare, last-by, follows-split}
+use Rattle.reading.specs.Reading.{Format, Text, Follows, IsStart, HasFault, IsEnding, GoesPast}
+use Rattle.reading.proofs.Run.{compare, last-by, follows-split}
 use Rattle.reading.proofs.Sofar.{Sofar, Next, here}
 
 no_ending : (b : Bool) → b ≡ true → b ≡ false → ⊥
@@ -79,11 +79,11 @@ start-past {W} f shut before (u ∷ us) y h some [] p more k m e =
 start-past {W} f shut before (u ∷ us) y h some (v ∷ vs) p more k m e =
     let parts : u ++ (joined us ++ y) ≡ v ++ (joined vs ++ p) = sym (append_assoc u (joined us) y) ∙ e ∙ append_assoc v (joined vs) p in
     let rest = λ (same : u ≡ v) (tail : joined us ++ y ≡ joined vs ++ p).
-        let le : length (joined us) ≤ length (joined vs) =
-        start-past f shut (before ++ u ∷ []) us y h.2 some vs p more (subst (λ z. Follows f (before ++ z ∷ []) vs) (sym same) k.2)
-        (subst (λ z. Matches (f.sort z) (f.follow z) (p ++ more)) (sym (append_assoc before (v ∷ []) vs) ∙ ap (λ (z : List W). (before ++ z ∷ []) ++ vs) (sym same)) m) tail in
-        let count : length u ≡ length v = ap length same in
-        let all : length (u ++ joined us) ≤ length (v ++ joined vs) = omega (arith, length-append u (joined us), length-append v (joined vs)) in all in
+    let le : length (joined us) ≤ length (joined vs) =
+    start-past f shut (before ++ u ∷ []) us y h.2 some vs p more (subst (λ z. Follows f (before ++ z ∷ []) vs) (sym same) k.2)
+    (subst (λ z. Matches (f.sort z) (f.follow z) (p ++ more)) (sym (append_assoc before (v ∷ []) vs) ∙ ap (λ (z : List W). (before ++ z ∷ []) ++ vs) (sym same)) m) tail in
+    let count : length u ≡ length v = ap length same in
+    let all : length (u ++ joined us) ≤ length (v ++ joined vs) = omega (arith, length-append u (joined us), length-append v (joined vs)) in all in
     elim (compare u v (joined us ++ y) (joined vs ++ p) parts) [
       | inl t ↦
           let none : t.0 ≡ [] = shut before u t.0 h.1 (subst (λ z. Matches (f.sort before) (f.follow before) z) t.1 k.1) in
@@ -98,7 +98,7 @@ pub sofar-other : {W S K : Type 0} (f : Format W S K) (text other front rest mor
     text ≡ front ++ rest → other ≡ front ++ more → Sofar f text (length front) units part → Sofar f other (length front) units part
 sofar-other {W} f text other front rest more units part a b o =
     let same = λ (n : ℕ) (le : n ≤ length front).
-        let e : take n text ≡ take n other = ap (λ (z : List W). take n z) a ∙ take-same front rest more n le ∙ ap (λ (z : List W). take n z) (sym b) in e in
+    let e : take n text ≡ take n other = ap (λ (z : List W). take n z) a ∙ take-same front rest more n le ∙ ap (λ (z : List W). take n z) (sym b) in e in
     record {
       run = o.run;
       is = sym (same (length front) (omega arith)) ∙ o.is;

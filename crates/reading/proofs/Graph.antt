@@ -63,7 +63,7 @@ length-extends old new h = let e : length new ≡ length (old ++ h.0) = ap lengt
 pub grown : (old new : List Node) (at : ℕ) (node : Node) → Placed old new at node → Grown old new at
 grown old new at node p = record { graph = p.graph; extends = p.extends; within = slice_get_within new at node p.is }
 
--- the node that was read
+-- The node that was read.
 pub read-node : (list : List Node) (i : ℕ) (x : Node) → i < length list → x ≡ get_or list i x → slice_get list i ≡ Some x
 read-node list i x h e = slice_get_read list (length list) i x refl h e
 
@@ -207,7 +207,7 @@ if_ok (Err e) P Q h f = tt
 
 -- ## no words
 
--- a result says of the pattern at the place whether it has no words
+-- A result says of the pattern at the place whether it has no words.
 abbrev pub Tells : {S : Type 0} → (S → ℕ) → List Node → ℕ → Bool → Type 0
 Tells {S} number list at r = (p : Pattern S) → Denotes number list at p → r ≡ skips p
 
@@ -243,7 +243,7 @@ skips-or-no number list at a b r s h f e g = λ p d.
     let t = is-or number list at a b p h d in
     g t.1 t.4 ∙ ap (λ z. z || skips t.1) (sym e ∙ f t.0 t.3) ∙ ap skips (sym t.2)
 
--- ## behind a word
+-- ## after a word
 
 pub left-never : {S : Type 0} (number : S → ℕ) (s : S) (old new : List Node) (at rest : ℕ) → slice_get old at ≡ Some nodes.Never → Placed old new rest nodes.Never → Leaves number s old new at rest
 left-never number s old new at rest h t = record {

@@ -1,4 +1,4 @@
--- What is left of a pattern behind a word is what may follow the word.
+-- What is left of a pattern after a word is what may follow the word.
 use Rattle.std.proofs.Common.{◌≡◌, ℕ, zero, suc, Bool, true, false, cond, not, ◌&&◌, ◌||◌, List, [], ◌∷◌, ◌++◌, length, refl, sym, ◌∙◌, ap, subst, append_assoc, arith, length-append, ◌⊎◌, inl, inr, slice_get, Some, None}
 use Rattle.std.specs.List.{AllByRecursion}
 use Rattle.std.proofs.lemmas.List.{append-nil}
@@ -86,7 +86,7 @@ alt-from sort Never q words h = inr h
 alt-from sort p Never words h = inl h
 alt-from sort p q words h = h
 
--- ## behind a word
+-- ## after a word
 
 one-to : {W S : Type 0} (sort : W → S) (class : S → Bool) (w : W) (words : List W) (b : Bool) → class (sort w) ≡ b →
     Matches sort (cond b Empty Never) words → Matches sort (One class) (w ∷ words)
@@ -122,7 +122,7 @@ left-to {W} sort (Many p) w words h =
     let t = seq-from sort (left (sort w) p) (Many p) words h in
     ((w ∷ t.0) ∷ t.3.0, (left-to sort p w t.0 t.2, t.3.1), ap (λ (z : List W). w ∷ z) (t.4 ∙ ap (λ z. t.0 ++ z) t.3.2))
 
--- a repetition that begins with a word: its first part that is not empty does
+-- A repetition that begins with a word: its first part that is not empty does.
 abbrev Turn : {W S : Type 0} → (W → S) → Pattern S → W → List W → Type 0
 Turn {W} sort p w words = (x : List W) × (y : List W) × Matches sort p (w ∷ x) × Matches sort (Many p) y × (words ≡ x ++ y)
 
@@ -287,7 +287,7 @@ apart-at (x ∷ all) p q h s (suc i) e a b =
 apart-is : {S : Type 0} (all : List S) → IsEach all → (p q : Pattern S) → apart all p q ≡ true → (s : S) → first s p ≡ true → first s q ≡ true → ⊥
 apart-is all each p q h s a b = let t = each s in apart-at all p q h s t.0 t.1 a b
 
--- words of two patterns that no sort begins both of are not alike in front
+-- Words of two patterns that no sort begins both of are not alike in front.
 not-alike : {W S : Type 0} (sort : W → S) (n : List S) → IsEach n → (p q : Pattern S) → apart n p q ≡ true →
     (x y r t : List W) → Matches sort p x → Matches sort q y → skips p ≡ false → skips q ≡ false → x ++ r ≡ y ++ t → ⊥
 not-alike sort n below p q h [] y r t a b sp sq e = let c : true ≡ false = sym (skips-of sort p a) ∙ sp in cc
@@ -302,7 +302,7 @@ one-closed {W} sort class u x a b =
     let m : length u ≡ 1 = ap length a.2 in
     nothing_left x (omega (arith, length-append u x))
 
--- of two fronts of one list that a closed pattern has, each is the other
+-- Of two fronts of one list that a closed pattern has, each is the other.
 same-front : {W S : Type 0} (sort : W → S) (p : Pattern S) → IsClosed sort p → (x y r t : List W) → Matches sort p x → Matches sort p y → x ++ r ≡ y ++ t → (x ≡ y) × (r ≡ t)
 same-front {W} sort p c x y r t a b e = elim (compare x y r t e) [
   | inl k ↦
@@ -319,7 +319,7 @@ then-closed {W} sort p q cp cq u z a b =
     let k = same-front sort p cp a.0 b.0 (a.1 ++ z) b.1 a.2 b.2 e in
     cq a.1 z a.3 (subst (λ y. Matches sort q y) (sym k.1) b.3)
 
--- a repetition, then words that no repetition begins with
+-- A repetition, then words that no repetition begins with.
 turns-closed : {W S : Type 0} (sort : W → S) (n : List S) → IsEach n → (p q : Pattern S) →
     IsClosed sort p → skips p ≡ false → IsClosed sort q → skips q ≡ false → apart n p q ≡ true →
     (xs ys : List (List W)) (x y z : List W) → AllByRecursion (Matches sort p) xs → AllByRecursion (Matches sort p) ys →
@@ -355,7 +355,7 @@ or-closed {W} sort n below p q cp sp cq sq ap_ u z a b = elim a [
   ]
 ]
 
--- the four parts of a test
+-- The four parts of a test.
 pub record Parts {S : Type 0} (n : List S) (p q : Pattern S) : Type 0 where
   pub left_closes : closes n p ≡ true
   pub left_some : skips p ≡ false

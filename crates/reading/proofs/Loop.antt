@@ -1,5 +1,5 @@
 -- The loop over the words of a text.
-use Rattle.std.proofs.Common.{◌≡◌, ℕ, zero, suc, ◌+◌, ◌<◌, ◌≤◌, Bool, true, false, inl, inr, List, [], ◌∷◌, ◌++◌, length, take, Option, Some, None, Result, Ok, Err, refl, sym, ◌∙◌, ap, subst, append_assoc, arith, length-append}
+use Rattle.std.proofs.Common.{◌≡◌, ℕ, zero, suc, ◌+◌, ◌<◌, ◌≤◌, true, false, inl, inr, List, [], ◌∷◌, ◌++◌, length, take, Option, Some, None, Result, Ok, Err, refl, sym, ◌∙◌, ap, subst, append_assoc, arith, length-append}
 use Rattle.std.proofs.lemmas.List.{append-nil}
 use Rattle.outside.specs.declared.place.Place.{Place}
 use Rattle.text_lex.specs.declared.word.LexError.{LexError}
@@ -23,7 +23,7 @@ use Rattle.reading.specs.Outcome.{Refuses, IsReadAs, Gives}
 use Rattle.reading.proofs.Ends.{take-front, begun-past, less-past, open-past, whole-past, sofar-other}
 use Rattle.reading.proofs.Sofar.{Sofar, sofar-start, sofar-open, sofar-close, Next, Shows, refuse-syntax, refuse-fault, refuse-lex, read-whole}
 
--- where the loop stands in the text: what it has left, and the words of the open unit
+-- Where the loop stands in the text: what it has left, and the words of the open unit.
 pub record AtLoop {S K : Type 0} (f : Format Token S K) (stands : List (List Token) → List Token → Type 0) (text rest : Text Token) (part : List Token) : Type 0 where
   pub units : List (List Token)
   pub front : List Token
@@ -53,7 +53,7 @@ take-next (z ∷ xs) ys x =
 size-next : {X : Type 0} (xs ys : List X) (x : X) → length xs < length (xs ++ x ∷ ys)
 size-next xs ys x = omega (arith, length-append xs (x ∷ ys))
 
--- the next word of a text
+-- The next word of a text.
 pub loop-next : {S K : Type 0} (f : Format Token S K) (stands : List (List Token) → List Token → Type 0) (text rest after : Text Token) (part : List Token) (word : Word) →
     (a : AtLoop f stands text rest part) → Steps rest (Ok (Some word)) after → Next text.words (length a.front) (token word)
 loop-next f stands text rest after part word a s =
@@ -103,11 +103,11 @@ loop-more f old new text rest after part word Whole a s k =
 
 -- ## places
 
-place-behind : (xs ys : List Token) (r : Option LexError) (n : ℕ) → place_in (xs ++ ys) r (length xs + n) ≡ place_in ys r n
-place-behind [] ys r n = ap (λ z. place_in ys r z) (let e : 0 + n ≡ n = omega arith in e)
-place-behind (x ∷ xs) ys r n =
+place-after : (xs ys : List Token) (r : Option LexError) (n : ℕ) → place_in (xs ++ ys) r (length xs + n) ≡ place_in ys r n
+place-after [] ys r n = ap (λ z. place_in ys r z) (let e : 0 + n ≡ n = omega arith in e)
+place-after (x ∷ xs) ys r n =
     let e : suc (length xs) + n ≡ suc (length xs + n) = omega arith in
-    ap (λ z. place_in (x ∷ (xs ++ ys)) r z) e ∙ place-behind xs ys r n
+    ap (λ z. place_in (x ∷ (xs ++ ys)) r z) e ∙ place-after xs ys r n
 
 place-front : (xs ys : List Token) (r : Option LexError) (n : ℕ) (p : Place) → place_in xs None n ≡ Some p → place_in (xs ++ ys) r n ≡ Some p
 place-front [] ys r n p h = absurd (let t : None ≡ Some p = h in cc)
@@ -122,7 +122,7 @@ place-refused : (xs : List Token) (e : LexError) → place_in xs (Some e) (lengt
 place-refused [] e = refl
 place-refused (x ∷ xs) e = place-refused xs e
 
--- the words so far, taken apart
+-- The words so far, taken apart.
 parted : {S K : Type 0} (f : Format Token S K) (stands : List (List Token) → List Token → Type 0) (text rest : Text Token) (part : List Token) →
     (a : AtLoop f stands text rest part) → a.front ≡ joined a.units ++ part
 parted f stands text rest part a =
@@ -152,7 +152,7 @@ loop-fault {K = K} f old text rest after part word place k orderly a s q =
       omega arith,
       omega (arith, length-append (joined a.units) part, length-append part (token word ∷ [])),
       refuse-fault f text (length a.front) a.units part (token word) found orderly a.sofar next shows,
-      ap (λ z. place_in z text.refused (length (joined a.units) + q.at)) all ∙ place-behind (joined a.units) ((part ++ token word ∷ []) ++ after.words) text.refused q.at
+      ap (λ z. place_in z text.refused (length (joined a.units) + q.at)) all ∙ place-after (joined a.units) ((part ++ token word ∷ []) ++ after.words) text.refused q.at
           ∙ place-front (part ++ token word ∷ []) after.words text.refused q.at place q.place_is,
     )
 
@@ -212,7 +212,7 @@ pub past-start : {S K : Type 0} (f : Format Token S K) (stands : List (List Toke
 unfolding loop-start
 past-start f stands text h begun = begun-past f begun text
 
--- Behind a word the text goes on, unless its units end it there.
+-- After a word the text goes on, unless its units end it there.
 pub past-more : {S K : Type 0} (f : Format Token S K) (old new : List (List Token) → List Token → Type 0) (text rest after : Text Token) (part : List Token) (word : Word) (step : Step) →
     (a : AtLoop f old text rest part) (s : Steps rest (Ok (Some word)) after) (k : Takes f new a.units part (token word) (Ok step)) →
     ((units : List (List Token)) (p : List Token) → new units p → ends_by step (f.ends units) ≡ false) → GoesPast f text (length a.front) →

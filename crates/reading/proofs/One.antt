@@ -1,5 +1,5 @@
 -- A text, as far as it is read, has one result.
-use Rattle.std.proofs.Common.{◌≡◌, ℕ, zero, suc, ◌+◌, ◌-◌, ◌<◌, ◌≤◌, List, [], ◌∷◌, ◌++◌, length, take, drop, Some, None, refl, sym, ◌∙◌, ap, subst, arith, length-append, ◌⊎◌, inl, inr}
+use Rattle.std.proofs.Common.{◌≡◌, ℕ, zero, suc, ◌+◌, ◌-◌, ◌<◌, ◌≤◌, List, [], ◌∷◌, ◌++◌, length, take, drop, Some, refl, sym, ◌∙◌, ap, subst, arith, length-append, inl, inr}
 use Rattle.std.proofs.lemmas.Bool.{cases_lt}
 use Rattle.std.proofs.Math.Seq.{take-add}
 use Rattle.outside.specs.declared.place.Place.{Place}
@@ -7,7 +7,7 @@ use Rattle.reading.specs.declared.refusal.Cause.{Cause}
 use Rattle.reading.specs.declared.refusal.Cause.TheVariants.{Syntax, Lex, Fault}
 use Rattle.reading.specs.Pattern.{Pattern, Matches, joined}
 use Rattle.reading.specs.Tests.{IsEach}
-use Rattle.reading.specs.Reading.{Format, Text, Start, IsStart, HasFault, CauseAt, IsRefused, IsRead, IsEnding, GoesPast, EndsFirst}
+use Rattle.reading.specs.Reading.{Format, Text, IsStart, HasFault, CauseAt, IsRefused, IsRead, IsEnding, GoesPast, EndsFirst}
 use Rattle.reading.specs.Word.{Token, place_in, end_after, ended_text}
 use Rattle.reading.specs.Grammar.{IsRegular}
 use Rattle.reading.specs.Outcome.{Hears, IsRefusedAt, IsReadAs}
@@ -57,10 +57,10 @@ cause-ended f shut text units e n lt (Lex kind) c =
     absurd (omega (arith, length-append (joined units) e.rest))
 cause-ended {K = K} f shut text units e n lt (Fault k) c = elim (cases_lt c.0 (length (joined units))) [
   | inl short ↦ (
-      c.0,
-      omega (arith, length-append (joined units) (end_after (joined units) ∷ [])),
-      subst (λ z. HasFault f z n k) (front-words f text units e (c.0 + 1) (omega arith)) c.2,
-    )
+    c.0,
+    omega (arith, length-append (joined units) (end_after (joined units) ∷ [])),
+    subst (λ z. HasFault f z n k) (front-words f text units e (c.0 + 1) (omega arith)) c.2,
+  )
   | inr long ↦
       let m : ℕ = c.0 in
       let within : m < length text.words = c.1 in

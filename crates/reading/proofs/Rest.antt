@@ -10,7 +10,7 @@ use Rattle.reading.proofs.Run.{nothing_left}
 
 -- ## a sort that comes last
 
--- the word is in the first or in the second part
+-- The word is in the first or in the second part.
 in-parts : {W : Type 0} (a b x y : List W) (w : W) → a ++ w ∷ b ≡ x ++ y →
     ((d : List W) × (x ≡ a ++ w ∷ d)) ⊎ ((d : List W) × (y ≡ d ++ w ∷ b) × (a ≡ x ++ d))
 in-parts a b [] y w e = inr (a, sym e, refl)
@@ -70,7 +70,7 @@ last sort s (Or p q) h a b w k m =
     elim m [ inl r ↦ last sort s p t.0 a b w k r | inr r ↦ last sort s q t.1 a b w k r ]
 last sort s (Many p) h a b w k m = absurd (avoid-none sort s (Many p) h a b w k m)
 
--- ## behind words
+-- ## after words
 
 pub lefts-more : {W S : Type 0} (sort : W → S) (p : Pattern S) (ws : List W) (w : W) → lefts sort p (ws ++ w ∷ []) ≡ left (sort w) (lefts sort p ws)
 lefts-more sort p [] w = refl

@@ -4,7 +4,7 @@ use Rattle.std.proofs.lemmas.List.{append-nil}
 use Rattle.reading.specs.Pattern.{Pattern, Matches, Begins, joined}
 use Rattle.reading.specs.Reading.{Format, Follows, Start}
 
--- one of two fronts of a list is a front of the other
+-- One of two fronts of a list is a front of the other.
 pub compare : {W : Type 0} (a c b d : List W) → a ++ b ≡ c ++ d →
     ((x : List W) × (c ≡ a ++ x) × (b ≡ x ++ d)) ⊎ ((x : List W) × (a ≡ c ++ x) × (d ≡ x ++ b))
 compare [] c b d h = inl (c, refl, h)
@@ -61,7 +61,7 @@ run-start f = record {
   last = λ others h e. no_units f others h e;
 }
 
--- a first unit of what follows the open words takes more than them
+-- A first unit of what follows the open words takes more than them.
 abbrev Past : {W : Type 0} (part u y z : List W) → Type 0
 Past {W} part u y z = (x : List W) × (0 < length x) × (u ≡ part ++ x) × (y ≡ x ++ z)
 
@@ -136,14 +136,14 @@ run-open f units part w r n = record {
   last = r.last;
 }
 
--- what is left of a start behind a unit that is whole
-abbrev Behind : {W S K : Type 0} → Format W S K → List (List W) → List W → List W → List (List W) → List W → Type 0
-Behind f units u y us p = (rest : Start f (units ++ u ∷ []) y) × (us ≡ u ∷ rest.units) × (p ≡ rest.part)
+-- What is left of a start after a unit that is whole.
+abbrev After : {W S K : Type 0} → Format W S K → List (List W) → List W → List W → List (List W) → List W → Type 0
+After f units u y us p = (rest : Start f (units ++ u ∷ []) y) × (us ≡ u ∷ rest.units) × (p ≡ rest.part)
 
-behind-same : {W S K : Type 0} (f : Format W S K) (units : List (List W)) (u y : List W) (v : List W) (vs : List (List W)) (p : List W) →
+after-same : {W S K : Type 0} (f : Format W S K) (units : List (List W)) (u y : List W) (v : List W) (vs : List (List W)) (p : List W) →
     u ≡ v → Follows f (units ++ v ∷ []) vs → Begins (f.sort (units ++ v ∷ vs)) (f.follow (units ++ v ∷ vs)) p → 0 < length p → y ≡ joined vs ++ p →
-    Behind f units u y (v ∷ vs) p
-behind-same {W} f units u y v vs p same h b some e = (
+    After f units u y (v ∷ vs) p
+after-same {W} f units u y v vs p same h b some e = (
   record {
     units = vs;
     part = p;
@@ -156,19 +156,19 @@ behind-same {W} f units u y v vs p same h b some e = (
   refl,
 )
 
--- nothing longer than a whole unit is a unit
+-- Nothing longer than a whole unit is a unit.
 abbrev pub Ends : {W S : Type 0} → (W → S) → Pattern S → List W → Type 0
 Ends {W} sort p u = (x : List W) → Matches sort p (u ++ x) → x ≡ []
 
-behind-longer : {W S K : Type 0} (f : Format W S K) (units : List (List W)) (u y : List W) (v x : List W) (vs : List (List W)) (p : List W) →
+after-longer : {W S K : Type 0} (f : Format W S K) (units : List (List W)) (u y : List W) (v x : List W) (vs : List (List W)) (p : List W) →
     Ends (f.sort units) (f.follow units) u → v ≡ u ++ x → Matches (f.sort units) (f.follow units) v → y ≡ x ++ (joined vs ++ p) →
     Follows f (units ++ v ∷ []) vs → Begins (f.sort (units ++ v ∷ vs)) (f.follow (units ++ v ∷ vs)) p → 0 < length p →
-    Behind f units u y (v ∷ vs) p
-behind-longer {W} f units u y v x vs p ends e m g h b some =
+    After f units u y (v ∷ vs) p
+after-longer {W} f units u y v x vs p ends e m g h b some =
     let z : x ≡ [] = ends x (subst (λ z. Matches (f.sort units) (f.follow units) z) e m) in
-    behind-same f units u y v vs p (sym (e ∙ ap (λ z. u ++ z) z ∙ append-nil u)) h b some (g ∙ ap (λ (z : List W). z ++ (joined vs ++ p)) z)
+    after-same f units u y v vs p (sym (e ∙ ap (λ z. u ++ z) z ∙ append-nil u)) h b some (g ∙ ap (λ (z : List W). z ++ (joined vs ++ p)) z)
 
--- a whole unit within the words of another is the other
+-- A whole unit within the words of another is the other.
 shorter : {W S K : Type 0} (f : Format W S K) (units : List (List W)) (part : List W) (w : W) → Run f units part →
     (v x : List W) → 0 < length v → Matches (f.sort units) (f.follow units) v → part ++ w ∷ [] ≡ v ++ x → (x ≡ []) × (v ≡ part ++ w ∷ [])
 shorter f units part w r v x some m e =
@@ -178,25 +178,25 @@ shorter f units part w r v x some m e =
     let z : x ≡ [] = nothing_left x (omega (arith, length-append t.0 x)) in
     (z, sym (e ∙ ap (λ z. v ++ z) z ∙ append-nil v))
 
-behind-by : {W S K : Type 0} (f : Format W S K) (units : List (List W)) (part : List W) (w : W) → Run f units part →
+after-by : {W S K : Type 0} (f : Format W S K) (units : List (List W)) (part : List W) (w : W) → Run f units part →
     Ends (f.sort units) (f.follow units) (part ++ w ∷ []) → (y : List W) → 0 < length y →
     (us : List (List W)) (p : List W) → Follows f units us → Begins (f.sort (units ++ us)) (f.follow (units ++ us)) p → 0 < length p →
-    (part ++ w ∷ []) ++ y ≡ joined us ++ p → Behind f units (part ++ w ∷ []) y us p
-behind-by {W} f units part w r ends y more [] p h b some e =
+    (part ++ w ∷ []) ++ y ≡ joined us ++ p → After f units (part ++ w ∷ []) y us p
+after-by {W} f units part w r ends y more [] p h b some e =
     let m : Matches (f.sort units) (f.follow units) ((part ++ w ∷ []) ++ (y ++ b.0)) =
     subst (λ z. Matches (f.sort units) (f.follow units) z) (ap (λ (z : List W). z ++ b.0) (sym e) ∙ append_assoc (part ++ w ∷ []) y b.0)
     (subst (λ z. Matches (f.sort z) (f.follow z) (p ++ b.0)) (append-nil units) b.1) in
     let n : length (y ++ b.0) ≡ 0 = ap length (ends (y ++ b.0) m) in
     absurd (omega (arith, length-append y b.0))
-behind-by {W} f units part w r ends y more (v ∷ vs) p h b some e =
+after-by {W} f units part w r ends y more (v ∷ vs) p h b some e =
     elim (compare (part ++ w ∷ []) v y (joined vs ++ p) (e ∙ append_assoc v (joined vs) p)) [
-      | inl t ↦ behind-longer f units (part ++ w ∷ []) y v t.0 vs p ends t.1 h.1 t.2 h.2 b some
+      | inl t ↦ after-longer f units (part ++ w ∷ []) y v t.0 vs p ends t.1 h.1 t.2 h.2 b some
       | inr t ↦
           let k = shorter f units part w r v t.0 h.0 h.1 t.1 in
-          behind-same f units (part ++ w ∷ []) y v vs p (sym k.1) h.2 b some (sym (t.2 ∙ ap (λ (z : List W). z ++ y) k.0))
+          after-same f units (part ++ w ∷ []) y v vs p (sym k.1) h.2 b some (sym (t.2 ∙ ap (λ (z : List W). z ++ y) k.0))
     ]
 
--- the units but the last, and the last
+-- The units but the last, and the last.
 abbrev Snoc : {X : Type 0} → List X → Type 0
 Snoc {X} xs = (ys : List X) × (y : X) × (xs ≡ ys ++ y ∷ [])
 
@@ -239,7 +239,7 @@ run-close {W} f units part w r m ends =
       only = λ y some s.
           let same : joined (units ++ u ∷ []) ++ y ≡ joined units ++ (u ++ y) = ap (λ (z : List W). z ++ y) all ∙ append_assoc (joined units) u y in
           let t = r.only (u ++ y) (omega (arith, length-append u y)) (record { units = s.units; part = s.part; whole = s.whole; begins = s.begins; some = s.some; is = sym same ∙ s.is }) in
-          let k = behind-by f units part w r ends y some t.0.units t.0.part t.0.whole t.0.begins t.0.some t.0.is in
+          let k = after-by f units part w r ends y some t.0.units t.0.part t.0.whole t.0.begins t.0.some t.0.is in
           (k.0, t.1 ∙ ap (λ z. units ++ z) k.1 ∙ sym (append_assoc units (u ∷ []) k.0.units), t.2 ∙ k.2);
       none = λ a b e some m. absurd (let n : 0 ≡ length (a ++ b) = ap length e in omega (arith, length-append a b));
       last = λ others h e. last-by f units part w r others h (e ∙ all);

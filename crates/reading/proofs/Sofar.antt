@@ -25,12 +25,12 @@ sofar-start f text = record {
   clean = λ m h n k s. absurd (omega arith);
 }
 
--- the next word
+-- The next word.
 pub record Next {W : Type 0} (text : List W) (i : ℕ) (w : W) : Type 0 where
   pub within : i < length text
   pub is : take (i + 1) text ≡ take i text ++ w ∷ []
 
--- the same start of equal words
+-- The same start of equal words.
 pub along : {W S K : Type 0} (f : Format W S K) (words other : List W) → words ≡ other → (s : Start f [] words) →
     (t : Start f [] other) × (t.units ≡ s.units) × (t.part ≡ s.part)
 along f words other e s =
@@ -40,7 +40,7 @@ pub here : {W S K : Type 0} (f : Format W S K) (text : List W) (i : ℕ) (units 
     Sofar f text i units part → Next text i w → take (i + 1) text ≡ joined units ++ (part ++ w ∷ [])
 here {W} f text i units part w s n = n.is ∙ ap (λ (z : List W). z ++ w ∷ []) s.is ∙ append_assoc (joined units) part (w ∷ [])
 
--- any start of these words has these units and this part
+-- Any start of these words has these units and this part.
 at_start : {W S K : Type 0} (f : Format W S K) (text : List W) (i : ℕ) (units : List (List W)) (part : List W) (w : W) →
     Sofar f text i units part → Next text i w → (s : IsStart f (take (i + 1) text)) → (s.units ≡ units) × (s.part ≡ part ++ w ∷ [])
 at_start f text i units part w o n s =
@@ -90,7 +90,7 @@ sofar-close {W} f text i units part w o n fine m ends =
     (units ++ u ∷ []) [] (run-close f units part w o.run m ends)
     (append-nil (joined (units ++ u ∷ [])) ∙ joined_more units u)
 
--- the words up to a later one
+-- The words up to a later one.
 longer : {W S K : Type 0} (f : Format W S K) (text : List W) (i j : ℕ) (units : List (List W)) (part : List W) (w : W) →
     Sofar f text i units part → Next text i w → i ≤ j →
     take (j + 1) text ≡ joined units ++ (part ++ w ∷ take (j - i) (drop (i + 1) text))
@@ -100,7 +100,7 @@ longer {W} f text i j units part w o n le =
     ap (λ k. take k text) step ∙ take-add (i + 1) (j - i) text ∙ ap (λ (z : List W). z ++ more) (here f text i units part w o n)
     ∙ append_assoc (joined units) (part ++ w ∷ []) more ∙ ap (λ z. joined units ++ z) (append_assoc part (w ∷ []) more)
 
--- what a start of more words has, beside these units and this part
+-- What a start of more words has, beside these units and this part.
 abbrev Beyond : {W S K : Type 0} → Format W S K → List (List W) → List W → W → List W → List (List W) → List W → Type 0
 Beyond {W} f units part w more all last =
     (us : List (List W)) × (p : List W) × (all ≡ units ++ us) × (last ≡ p) × Later f units part w more us p
@@ -115,7 +115,7 @@ beyond f text i j units part w o n le s =
 
 -- ## Syntax
 
--- no start of the text goes past the word
+-- No start of the text goes past the word.
 stuck : {W S K : Type 0} (f : Format W S K) (text : List W) (i : ℕ) (units : List (List W)) (part : List W) (w : W) →
     Sofar f text i units part → Next text i w → (Begins (f.sort units) (f.follow units) (part ++ w ∷ []) → ⊥) →
     (j : ℕ) → i ≤ j → IsStart f (take (j + 1) text) → ⊥
@@ -155,12 +155,12 @@ refuse-syntax f text i units part w o n dead = record {
 
 -- ## a fault
 
--- the fault that these words show, and where it stands
+-- The fault that these words show, and where it stands.
 pub record Shows {W S K : Type 0} (f : Format W S K) (units : List (List W)) (part : List W) (w : W) (a : Found K) : Type 0 where
   pub begins : Begins (f.sort units) (f.follow units) (part ++ w ∷ [])
   pub is : f.fault units (part ++ w ∷ []) a
 
--- a fault that more words show is not earlier, and at the same word it is the same
+-- A fault that more words show is not earlier, and at the same word it is the same.
 later-fault : {W S K : Type 0} (f : Format W S K) (text : List W) (i : ℕ) (units : List (List W)) (part : List W) (w : W) (a : Found K) →
     IsOrderly f → Sofar f text i units part → Next text i w → Shows f units part w a → (j : ℕ) → i ≤ j → (m : ℕ) (k : K) → HasFault f (take (j + 1) text) m k →
     (length (joined units) + a.at ≤ m) × (m ≡ length (joined units) + a.at → k ≡ a.kind)

@@ -25,7 +25,7 @@ use Rattle.reading.proofs.Graph.{length-extends}
 use Rattle.reading.proofs.Rest.{last, lefts-more, rest-never, rest-some, rest-skips, rest-goes_on}
 use Rattle.reading.proofs.Tables.{denotes-before, lefts-grown, lefts-kept, starts-grown, lefts-noted, starts-noted}
 
--- each value stands at its number
+-- Each value stands at its number.
 abbrev pub IsListed : {X : Type 0} → (X → ℕ) → List X → Type 0
 IsListed {X} number all = (x : X) → slice_get all (number x) ≡ Some x
 
@@ -41,7 +41,7 @@ known-start number section pattern nodes starts c i at r k e lt read is =
     let there : slice_get starts i ≡ Some r = slice_get_read starts (length starts) i r refl lt read in
     k.is c at (subst (λ z. slice_get starts z ≡ Some (Some at)) e (there ∙ ap (λ z. Some z) is))
 
--- more patterns, and then rows for them
+-- More patterns, and then rows for them.
 ready-wide : {S C : Type 0} (number : S → ℕ) (section : C → ℕ) (pattern : C → Pattern S) (m one wide : Machine) (at : ℕ) → IsReady number section pattern m →
     Grown m.patterns.nodes.items one.patterns.nodes.items at → one.lefts ≡ m.lefts → one.starts ≡ m.starts →
     HasRows wide → TellsNoMore one.lefts.items wide.lefts.items → KeepsOthers one wide → IsReady number section pattern wide
@@ -71,7 +71,7 @@ ready-started number section pattern all m one wide two c i at listed r g d left
       starts = subst (λ z. KnowsStarts number section pattern z.nodes.items two.starts.items) (sym patterns) starts;
     }
 
--- what one more node leads to, where rows are made
+-- What one more node leads to, where rows are made.
 pub grown-wide : (old : List Node) (one wide : Machine) (at : ℕ) → Grown old one.patterns.nodes.items at → KeepsOthers one wide → Grown old wide.patterns.nodes.items at
 grown-wide old one wide at g w = subst (λ z. Grown old z.nodes.items at) (sym w.patterns) g
 
@@ -96,7 +96,7 @@ ready-noted number section pattern all m one wide two sort i rest listed few r w
 
 -- ## the word
 
--- a reader before a word, and what is left of its pattern behind it
+-- A reader before a word, and what is left of its pattern after it.
 pub record Before {S C K : Type 0} (number : S → ℕ) (all : List S) (pattern : C → Pattern S) (f : Format Token S K) (holds : List (List Token) → Type 0)
     (old new : List Node) (at rest : ℕ) (units : List (List Token)) (part : List Token) (w : Token) : Type 0 where
   pub listed : IsListed number all
@@ -115,11 +115,11 @@ before number all pattern f holds old new at rest units part w s h r e a l = rec
   leaves = subst (λ z. Leaves number z old new at rest) e l;
 }
 
-pub behind : {S C K : Type 0} (number : S → ℕ) (all : List S) (pattern : C → Pattern S) (f : Format Token S K) (holds : List (List Token) → Type 0)
+pub denotes_after : {S C K : Type 0} (number : S → ℕ) (all : List S) (pattern : C → Pattern S) (f : Format Token S K) (holds : List (List Token) → Type 0)
     (old new : List Node) (at rest : ℕ) (units : List (List Token)) (part : List Token) (w : Token) →
     (b : Before number all pattern f holds old new at rest units part w) →
     Denotes number new rest (lefts (f.sort units) (pattern b.stands.section) (part ++ w ∷ []))
-behind number all pattern f holds old new at rest units part w b =
+denotes_after number all pattern f holds old new at rest units part w b =
     subst (λ z. Denotes number new rest z) (sym (lefts-more (f.sort units) (pattern b.stands.section) part w))
     (b.leaves.is (lefts (f.sort units) (pattern b.stands.section) part) b.stands.rest)
 
@@ -128,7 +128,7 @@ pub step-syntax : {S C K : Type 0} (number : S → ℕ) (all : List S) (pattern 
     Before number all pattern f holds old new at rest units part w → ((p : Pattern S) → Denotes number new rest p → p ≡ Never) →
     Begins (f.sort units) (f.follow units) (part ++ w ∷ []) → ⊥
 step-syntax number all pattern f holds old new at rest units part w b never begins =
-    rest-never (f.sort units) (pattern b.stands.section) (part ++ w ∷ []) (never _ (behind number all pattern f holds old new at rest units part w b))
+    rest-never (f.sort units) (pattern b.stands.section) (part ++ w ∷ []) (never _ (denotes_after number all pattern f holds old new at rest units part w b))
     (subst (λ z. Begins (f.sort units) z (part ++ w ∷ [])) b.stands.follow begins)
 
 pub step-begins : {S C K : Type 0} (number : S → ℕ) (all : List S) (pattern : C → Pattern S) (f : Format Token S K) (holds : List (List Token) → Type 0)
@@ -140,15 +140,15 @@ step-begins number all pattern f holds old new at rest units part w b some =
     let same : pattern b.stands.section ≡ pattern c = sym b.stands.follow ∙ b.regular.follow units in
     subst (λ z. Begins (f.sort units) z (part ++ w ∷ [])) (sym (b.regular.follow units))
     (rest-some (f.sort units) all (b.regular.usable c) (b.regular.samples units) (pattern c) (part ++ w ∷ [])
-    (b.regular.units c).solid (subst (λ z. lefts (f.sort units) z (part ++ w ∷ []) ≡ Never → ⊥) same (some _ (behind number all pattern f holds old new at rest units part w b))))
+    (b.regular.units c).solid (subst (λ z. lefts (f.sort units) z (part ++ w ∷ []) ≡ Never → ⊥) same (some _ (denotes_after number all pattern f holds old new at rest units part w b))))
 
--- the place of a word of a list
+-- The place of a word of a list.
 pub place-of : (words : List Word) (i : ℕ) (d : Word) → i < length words → place_in (map token words) None i ≡ Some (get_or words i d).place
 place-of [] i d h = absurd (omega arith)
 place-of (y ∷ words) zero d h = refl
 place-of (y ∷ words) (suc i) d h = place-of words i d (omega arith)
 
--- the word that stands for one past a list's end
+-- The word that stands for one past a list's end.
 abbrev pub no_word : Word
 no_word = record { text = record { ref_ptr = (0, 0); now = [] }; place = record { line = 0; word = 0 }; form = Bare }
 
@@ -193,7 +193,7 @@ pub step-open : {S C K : Type 0} (number : S → ℕ) (all : List S) (pattern : 
     ((p : Pattern S) → Denotes number new rest p → false ≡ skips p) → words ≡ part ++ w ∷ [] → IsFine f units words →
     GoesOn f (StandsAt number pattern f holds new rest) units part w
 step-open number all pattern f holds old new at rest units part w words b some no_skip e fine =
-    let d = behind number all pattern f holds old new at rest units part w b in
+    let d = denotes_after number all pattern f holds old new at rest units part w b in
     let begins = step-begins number all pattern f holds old new at rest units part w b some in
     let goes_on : Matches (f.sort units) (f.follow units) (part ++ w ∷ []) → ⊥ =
     λ m. rest-goes_on (f.sort units) (pattern b.stands.section) (part ++ w ∷ []) (sym (no_skip _ d)) (subst (λ z. Matches (f.sort units) z (part ++ w ∷ [])) b.stands.follow m) in
@@ -227,7 +227,7 @@ pub step-whole : {S C K : Type 0} (number : S → ℕ) (all : List S) (pattern :
     ((us : List (List Token)) → after us → StartsAt number pattern f later start us) →
     Closes f (StandsAt number pattern f after later start) units part w
 step-whole number all pattern f holds old new at rest units part w after later start words b skip e fine take starts =
-    let d = behind number all pattern f holds old new at rest units part w b in
+    let d = denotes_after number all pattern f holds old new at rest units part w b in
     let unit = b.regular.units b.stands.section in
     let m : Matches (f.sort units) (pattern b.stands.section) (part ++ w ∷ []) = rest-skips (f.sort units) (pattern b.stands.section) (part ++ w ∷ []) (sym (skip _ d)) in
     let matches : Matches (f.sort units) (f.follow units) (part ++ w ∷ []) = subst (λ z. Matches (f.sort units) z (part ++ w ∷ [])) (sym b.stands.follow) m in

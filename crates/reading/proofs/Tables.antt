@@ -87,7 +87,7 @@ lefts-grown number old new at lefts graph g k = record {
       );
 }
 
--- what is left of nodes, where less or the same is known
+-- What is left of nodes, where less or the same is known.
 pub lefts-kept : {S : Type 0} (number : S → ℕ) (nodes : List Node) (old new : List (Option Rest)) → TellsNoMore old new → KnowsLefts number nodes old → KnowsLefts number nodes new
 lefts-kept number nodes old new tells k = record { is = λ s i v h. k.is s i v (tells (i * 64 + number s) v h) }
 
@@ -103,7 +103,7 @@ starts-grown number section pattern old new at starts g k = record {
 same-key : (i j m n : ℕ) → m < 64 → n < 64 → i * 64 + m ≡ j * 64 + n → (i ≡ j) × (m ≡ n)
 same-key i j m n h k e = (omega arith, omega arith)
 
--- two values with one number are one
+-- Two values with one number are one.
 pub same-number : {X : Type 0} (number : X → ℕ) (all : List X) → ((x : X) → slice_get all (number x) ≡ Some x) → (x y : X) → number x ≡ number y → x ≡ y
 same-number number all h x y e = let t : Some x ≡ Some y = sym (h x) ∙ ap (λ z. slice_get all z) e ∙ h y in cc
 

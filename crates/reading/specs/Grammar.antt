@@ -1,5 +1,5 @@
 -- What a format supplies.
-use Rattle.std.specs.Prelude.{◌≡◌, Bool, true, false, List, ◌⊎◌, ◌+◌, [], ◌∷◌, ◌++◌, Option, Some, None}
+use Rattle.std.specs.Prelude.{◌≡◌, Bool, true, false, List, ◌⊎◌, [], ◌∷◌, ◌++◌, Option, Some, None}
 use Rattle.reading.specs.Pattern.{Pattern, Never, Matches}
 use Rattle.reading.specs.Tests.{solid, closes, comes_last, HasSamples}
 use Rattle.reading.specs.declared.word.Form.TheVariants.{End}
@@ -13,8 +13,8 @@ pub record IsUnit {S : Type 0} (sorts : List S) (usable : S → Bool) (end : S) 
   pub closes : closes sorts p ≡ true
   pub comes_last : comes_last end p ≡ true
 
--- What a format owes: of each section which sorts have words in it, the sort of the end of the text, patterns that end where their
--- words say so, and faults in order.
+-- What a format owes: of each section which sorts have words in it, the sort of the end of the text, patterns that end
+-- where their words say so, and faults in order.
 pub record IsRegular {S C K : Type 0} (sorts : List S) (pattern : C → Pattern S) (f : Format Token S K) : Type 0 where
   pub usable : C → S → Bool
   -- The section after these units.
@@ -28,12 +28,12 @@ pub record IsRegular {S C K : Type 0} (sorts : List S) (pattern : C → Pattern 
   pub units : (c : C) → IsUnit sorts (usable c) end (pattern c)
   pub orderly : IsOrderly f
 
--- Behind these words of the open unit none of the next ones shows a fault.
+-- After these words of the open unit none of the next ones shows a fault.
 abbrev pub NoneShows : {S K : Type 0} → Format Token S K → List (List Token) → List Token → List Token → Type 0
 NoneShows f units before [] = Unit {0}
 NoneShows f units before (w ∷ words) = IsFine f units (before ++ w ∷ []) × NoneShows f units (before ++ w ∷ []) words
 
--- The words are a whole unit behind these, and none of them has shown a fault.
+-- The words are a whole unit after these, and none of them has shown a fault.
 pub record IsTaken {S K : Type 0} (f : Format Token S K) (units : List (List Token)) (part : List Token) : Type 0 where
   pub matches : Matches (f.sort units) (f.follow units) part
   pub fine : NoneShows f units [] part

@@ -7,5 +7,8 @@ pub mod Source
 pub mod Grammar
 pub mod Reader
 pub mod Outcome
+pub mod Error
+pub mod Blocks
+pub mod Keyword
 pub mod Laws
 pub mod inside

@@ -1,22 +1,23 @@
--- Patterns of words: which lists of words a unit may be. A format gives each of its words a sort, as a keyword or a kind of word.
+-- Patterns of words: which lists of words a unit may be. A format gives each of its words a sort, as a keyword or a
+-- kind of word.
 use Rattle.std.specs.Prelude.{Bool, List, [], ◌∷◌, ◌++◌, ◌≡◌, ◌⊎◌, true}
 use Rattle.std.specs.List.{AllByRecursion}
 
 pub data Pattern (S : Type 0) : Type 0 where
-  -- no list of words
+  -- No list of words.
   Never : Pattern S
-  -- no words
+  -- No words.
   Empty : Pattern S
-  -- one word, whose sort is in this class
+  -- One word, whose sort is in this class.
   One : (S → Bool) → Pattern S
-  -- the first, then the second
+  -- The first, then the second.
   Then : Pattern S → Pattern S → Pattern S
-  -- the first or the second
+  -- The first or the second.
   Or : Pattern S → Pattern S → Pattern S
-  -- any number of times
+  -- Any number of times.
   Many : Pattern S → Pattern S
 
--- the words of the parts, one after the other
+-- The words of the parts, one after the other.
 abbrev pub joined : {W : Type 0} → List (List W) → List W
 joined [] = []
 joined (x ∷ xs) = x ++ joined xs
@@ -28,7 +29,8 @@ Matches sort Empty words = words ≡ []
 Matches {W} sort (One class) words = (w : W) × (class (sort w) ≡ true) × (words ≡ w ∷ [])
 Matches {W} sort (Then p q) words = (x : List W) × (y : List W) × Matches sort p x × Matches sort q y × (words ≡ x ++ y)
 Matches sort (Or p q) words = Matches sort p words ⊎ Matches sort q words
-Matches {W} sort (Many p) words = (parts : List (List W)) × AllByRecursion (Matches sort p) parts × (words ≡ joined parts)
+Matches {W} sort (Many p) words = (parts : List (List W)) × AllByRecursion (Matches sort p) parts
+    × (words ≡ joined parts)
 
 -- The words are the first ones of some words of the pattern.
 abbrev pub Begins : {W S : Type 0} → (W → S) → Pattern S → List W → Type 0

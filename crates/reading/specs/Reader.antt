@@ -8,10 +8,9 @@ use Rattle.outside.specs.declared.place.Place.{Place}
 use Rattle.reading.specs.declared.stop.Step.{Step}
 use Rattle.reading.specs.declared.stop.Step.TheVariants.{Open, Whole}
 use Rattle.reading.specs.declared.stop.Stop.{Stop}
-use Rattle.reading.specs.declared.refusal.Cause.TheVariants.{Syntax, Fault}
 use Rattle.reading.specs.declared.stop.Stop.TheVariants as stops
 
--- The unit goes on behind the word.
+-- The unit goes on after the word.
 pub record GoesOn {S K : Type 0} (f : Format Token S K) (stands : List (List Token) → List Token → Type 0)
     (units : List (List Token)) (part : List Token) (w : Token) : Type 0 where
   pub begins : Begins (f.sort units) (f.follow units) (part ++ w ∷ [])
@@ -29,7 +28,8 @@ pub record Closes {S K : Type 0} (f : Format Token S K) (stands : List (List Tok
   pub there : stands (units ++ (part ++ w ∷ []) ∷ []) []
 
 -- The words up to this one show a fault of the word at this place.
-pub record Faulty {S K : Type 0} (f : Format Token S K) (units : List (List Token)) (part : List Token) (w : Token) (place : Place) (k : K) : Type 0 where
+pub record Faulty {S K : Type 0} (f : Format Token S K) (units : List (List Token)) (part : List Token) (w : Token)
+    (place : Place) (k : K) : Type 0 where
   pub begins : Begins (f.sort units) (f.follow units) (part ++ w ∷ [])
   pub at : ℕ
   pub is : f.fault units (part ++ w ∷ []) (record { at = at; kind = k })

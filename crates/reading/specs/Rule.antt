@@ -3,7 +3,7 @@ use Rattle.std.specs.Prelude.{ℕ, Bool, false, ◌||◌, nat_eq, List, [], ◌�
 use Rattle.reading.specs.declared.rule.Rule.{Rule, Nothing as Nothing_rule, One as One_rule, Other as Other_rule, Then' as Then_rule, Or' as Or_rule, Many' as Many_rule}
 use Rattle.reading.specs.Pattern.{Pattern, Never, One, Then, Or, Many}
 
--- whether the sort is one of these
+-- Whether the sort is one of these.
 abbrev pub listed_in : {S : Type 0} → (S → ℕ) → List S → S → Bool
 listed_in number [] sort = false
 listed_in number (s ∷ sorts) sort = nat_eq (number s) (number sort) || listed_in number sorts sort

@@ -14,8 +14,8 @@ Ended words = (front : List Token) × (w : Token) × (words ≡ front ++ w ∷ [
 abbrev pub IsWhole : Text Token → Type 0
 IsWhole text = text.refused ≡ None → Ended text.words
 
--- What is told of the words that are left, where `before` is what is left at the call, and `after` what is left then: the next word;
--- None behind the end of the text; at a word that is refused its refusal.
+-- What is told of the words that are left, where `before` is what is left at the call, and `after` what is left then:
+-- the next word; None after the end of the text; at a word that is refused its refusal.
 abbrev pub Steps : Text Token → Result (Option Word) LexError → Text Token → Type 0
 Steps before (Ok (Some word)) after = (before.words ≡ token word ∷ after.words) × (after.refused ≡ before.refused)
 Steps before (Ok None) after = (before.words ≡ []) × (before.refused ≡ None)

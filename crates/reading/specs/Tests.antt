@@ -2,7 +2,7 @@
 use Rattle.std.specs.Prelude.{Bool, true, false, ◌&&◌, ◌||◌, not, List, [], ◌∷◌, ◌≡◌, ℕ, slice_get, Some}
 use Rattle.reading.specs.Pattern.{Pattern, Never, Empty, One, Then, Or, Many}
 
--- whether no words are of the pattern's
+-- Whether no words are of the pattern's.
 abbrev pub skips : {S : Type 0} → Pattern S → Bool
 skips Never = false
 skips Empty = true
@@ -11,7 +11,7 @@ skips (Then p q) = skips p && skips q
 skips (Or p q) = skips p || skips q
 skips (Many p) = true
 
--- whether some words of the pattern begin with a word of the sort
+-- Whether some words of the pattern begin with a word of the sort.
 abbrev pub first : {S : Type 0} → S → Pattern S → Bool
 first s Never = false
 first s Empty = false
@@ -20,17 +20,17 @@ first s (Then p q) = first s p || (skips p && first s q)
 first s (Or p q) = first s p || first s q
 first s (Many p) = first s p
 
--- none of these sorts begins both
+-- None of these sorts begins both.
 abbrev pub apart : {S : Type 0} → List S → Pattern S → Pattern S → Bool
 apart [] p q = true
 apart (s ∷ sorts) p q = not (first s p && first s q) && apart sorts p q
 
--- one of these sorts is in both classes
+-- One of these sorts is in both classes.
 abbrev pub meet : {S : Type 0} → List S → (S → Bool) → (S → Bool) → Bool
 meet [] a b = false
 meet (s ∷ sorts) a b = (a s && b s) || meet sorts a b
 
--- no part of the pattern is without words, where the usable ones of the sorts have words
+-- No part of the pattern is without words, where the usable ones of the sorts have words.
 abbrev pub solid : {S : Type 0} → List S → (S → Bool) → Pattern S → Bool
 solid sorts usable Never = false
 solid sorts usable Empty = true
@@ -39,7 +39,7 @@ solid sorts usable (Then p q) = solid sorts usable p && solid sorts usable q
 solid sorts usable (Or p q) = solid sorts usable p && solid sorts usable q
 solid sorts usable (Many p) = solid sorts usable p
 
--- no words of the pattern begin others of it: a repetition and a choice end where the next word says so
+-- No words of the pattern begin others of it: a repetition and a choice end where the next word says so.
 abbrev pub closes : {S : Type 0} → List S → Pattern S → Bool
 closes sorts Never = true
 closes sorts Empty = true
@@ -49,7 +49,7 @@ closes sorts (Then p q) = closes sorts p && closes sorts q
 closes sorts (Or p q) = closes sorts p && not (skips p) && closes sorts q && not (skips q) && apart sorts p q
 closes sorts (Many p) = false
 
--- no word of the sort is in words of the pattern
+-- No word of the sort is in words of the pattern.
 abbrev pub avoids : {S : Type 0} → S → Pattern S → Bool
 avoids s Never = true
 avoids s Empty = true
@@ -58,7 +58,7 @@ avoids s (Then p q) = avoids s p && avoids s q
 avoids s (Or p q) = avoids s p && avoids s q
 avoids s (Many p) = avoids s p
 
--- a word of the sort can only be the last of the pattern's words
+-- A word of the sort can only be the last of the pattern's words.
 abbrev pub comes_last : {S : Type 0} → S → Pattern S → Bool
 comes_last s Never = true
 comes_last s Empty = true
@@ -67,10 +67,10 @@ comes_last s (Then p q) = avoids s p && comes_last s q
 comes_last s (Or p q) = comes_last s p && comes_last s q
 comes_last s (Many p) = avoids s p
 
--- each sort is among these
+-- Each sort is among these.
 abbrev pub IsEach : {S : Type 0} → List S → Type 0
 IsEach {S} all = (s : S) → (i : ℕ) × (slice_get all i ≡ Some s)
 
--- each usable sort has a word
+-- Each usable sort has a word.
 abbrev pub HasSamples : {W S : Type 0} → (W → S) → (S → Bool) → Type 0
 HasSamples {W} {S} sort usable = (s : S) → usable s ≡ true → (w : W) × (sort w ≡ s)

@@ -11,7 +11,7 @@ use Rattle.text_lex.specs.declared.word.LexKind.{LexKind}
 use Rattle.reading.specs.Reading.{Text}
 use Rattle.text_lex.specs.declared.word.Form.TheVariants as split
 
--- a word without where it lies in memory
+-- A word without where it lies in memory.
 pub record Token : Type 0 where
   pub text : List ℕ
   pub place : Place
@@ -20,7 +20,7 @@ pub record Token : Type 0 where
 abbrev pub token : Word → Token
 token word = record { text = word.text.now; place = word.place; form = word.form }
 
--- the place of the word that has n words before it, or of the one that is refused for itself behind all of them
+-- The place of the word that has n words before it, or of the one that is refused for itself after all of them.
 abbrev pub place_in : List Token → Option LexError → ℕ → Option Place
 place_in [] None n = None
 place_in [] (Some error) zero = Some error.place
@@ -56,10 +56,17 @@ form_of split.Semicolon = Semicolon
 abbrev pub word_of : SplitToken → Token
 word_of word = record { text = word.text; place = word.place; form = form_of word.form }
 
--- A text as a format sees it: the words of the splitter and the end of the text, or those before the word that the splitter refuses.
+-- A text as a format sees it: the words of the splitter and the end of the text, or those before the word that the
+-- splitter refuses.
 abbrev pub text_with : List Token → Place → Option LexKind → Text Token
 text_with words last None = record { words = words ++ end_at last ∷ []; refused = None }
 text_with words last (Some kind) = record { words = words; refused = Some (record { place = last; kind = kind }) }
 
 abbrev pub seen_text : Split → Text Token
 seen_text split = text_with (map word_of split.words) split.last split.refusal
+
+-- The last of these words, if there is one.
+abbrev pub last_of : List Token → Option Token
+last_of [] = None
+last_of (word ∷ []) = Some word
+last_of (word ∷ next ∷ words) = last_of (next ∷ words)

@@ -44,13 +44,15 @@ where
     Ok(at)
 }
 
-/// What is left behind a word of the sort.
-fn behind<'a, G: Grammar<'a>>(machine: &mut Machine, sort: G::Sort) -> Result<Rest, AllocError>
+/// What is left after a word of the sort.
+fn left_after<'a, G: Grammar<'a>>(machine: &mut Machine, sort: G::Sort) -> Result<Rest, AllocError>
     requires ready { IsReady G.Sort.number G.Section.number G.pattern machine.old }
     requires within { machine.old.at < length machine.old.patterns.nodes.items }
     ensures ready { OnOk result (IsReady G.Sort.number G.Section.number G.pattern machine.new) }
-    ensures is { IfOk result (λ rest. Leaves G.Sort.number sort machine.old.patterns.nodes.items machine.new.patterns.nodes.items machine.old.at rest.node) }
-    ensures stands { IfOk result (λ rest. IsStanding G.Sort.number machine.new.patterns.nodes.items rest.node rest.standing) }
+    ensures is { IfOk result (λ rest. Leaves G.Sort.number sort machine.old.patterns.nodes.items
+        machine.new.patterns.nodes.items machine.old.at rest.node) }
+    ensures stands { IfOk result
+        (λ rest. IsStanding G.Sort.number machine.new.patterns.nodes.items rest.node rest.standing) }
 {
     let number = sort.number();
     if let Some(rest) = machine.known(number) {
@@ -86,16 +88,20 @@ where
     G::Sort: 'a,
     requires ready { IsReady G.Sort.number G.Section.number G.pattern machine.old }
     requires within { machine.old.at < length machine.old.patterns.nodes.items }
-    requires stands { OpensUnit G.Sort.number G.pattern (G.format grammar.now) (G.holds grammar.now said.old) machine.old.patterns.nodes.items machine.old.at (map token unit.now) sort }
+    requires stands { OpensUnit G.Sort.number G.pattern (G.format grammar.now)
+        (G.holds grammar.now said.old) machine.old.patterns.nodes.items machine.old.at (map token unit.now) sort }
     ensures ready { OnOk result (IsReady G.Sort.number G.Section.number G.pattern machine.new) }
     ensures within { OnOk result (machine.new.at < length machine.new.patterns.nodes.items) }
-    ensures takes { (units : List (List Token)) (part : List Token) (w : Token) → map token unit.now ≡ part ++ w ∷ [] → sort ≡ (G.format grammar.now).sort units w →
-        StandsAt G.Sort.number G.pattern (G.format grammar.now) (G.holds grammar.now said.old) machine.old.patterns.nodes.items machine.old.at units part →
-        Takes (G.format grammar.now) (StandsAt G.Sort.number G.pattern (G.format grammar.now) (G.holds grammar.now said.new) machine.new.patterns.nodes.items machine.new.at)
+    ensures takes { (units : List (List Token)) (part : List Token) (w : Token) →
+        map token unit.now ≡ part ++ w ∷ [] → sort ≡ (G.format grammar.now).sort units w →
+        StandsAt G.Sort.number G.pattern (G.format grammar.now)
+        (G.holds grammar.now said.old) machine.old.patterns.nodes.items machine.old.at units part →
+        Takes (G.format grammar.now) (StandsAt G.Sort.number G.pattern (G.format grammar.now)
+        (G.holds grammar.now said.new) machine.new.patterns.nodes.items machine.new.at)
         units part w result }
 {
     grammar.regular();
-    let rest = match behind::<G>(machine, sort) {
+    let rest = match left_after::<G>(machine, sort) {
         Ok(rest) => rest,
         Err(_) => return Err(Stop::Want),
     };
@@ -132,13 +138,18 @@ where
     G::Sort: 'a,
     requires ready { IsReady G.Sort.number G.Section.number G.pattern machine.old }
     requires within { machine.old.at < length machine.old.patterns.nodes.items }
-    requires stands { Stands G.Sort.number G.pattern (G.format grammar.now) (G.holds grammar.now said.old) machine.old.patterns.nodes.items machine.old.at (map token unit.old.items) }
+    requires stands { Stands G.Sort.number G.pattern (G.format grammar.now)
+        (G.holds grammar.now said.old) machine.old.patterns.nodes.items machine.old.at (map token unit.old.items) }
     ensures ready { OnOk result (IsReady G.Sort.number G.Section.number G.pattern machine.new) }
     ensures within { OnOk result (machine.new.at < length machine.new.patterns.nodes.items) }
-    ensures unit { IfOk result (λ step. map token unit.new.items ≡ part_after step (map token unit.old.items ++ token word.entry ∷ [])) }
+    ensures unit { IfOk result (λ step. map token unit.new.items
+        ≡ part_after step (map token unit.old.items ++ token word.entry ∷ [])) }
     ensures takes { (units : List (List Token)) →
-        StandsAt G.Sort.number G.pattern (G.format grammar.now) (G.holds grammar.now said.old) machine.old.patterns.nodes.items machine.old.at units (map token unit.old.items) →
-        Takes (G.format grammar.now) (StandsAt G.Sort.number G.pattern (G.format grammar.now) (G.holds grammar.now said.new) machine.new.patterns.nodes.items machine.new.at)
+        StandsAt G.Sort.number G.pattern (G.format grammar.now)
+        (G.holds grammar.now said.old) machine.old.patterns.nodes.items machine.old.at units
+        (map token unit.old.items) →
+        Takes (G.format grammar.now) (StandsAt G.Sort.number G.pattern (G.format grammar.now)
+        (G.holds grammar.now said.new) machine.new.patterns.nodes.items machine.new.at)
         units (map token unit.old.items) (token word.entry) result }
 {
     let sort = grammar.sort(said, &word);
@@ -205,11 +216,11 @@ where
         machine.old.patterns.nodes.items machine.old.at (map token unit.old.items) }
     ensures { (units : List (List Token)) →
         StandsAt G.Sort.number G.pattern (G.format grammar.now) (G.holds grammar.now said.old)
-            machine.old.patterns.nodes.items machine.old.at units (map token unit.old.items) →
+        machine.old.patterns.nodes.items machine.old.at units (map token unit.old.items) →
         Finishes (G.format grammar.now)
-            (StandsAt G.Sort.number G.pattern (G.format grammar.now) (G.holds grammar.now said.new)
-                machine.new.patterns.nodes.items machine.new.at)
-            units (map token unit.old.items) (token end.entry) result }
+        (StandsAt G.Sort.number G.pattern (G.format grammar.now) (G.holds grammar.now said.new)
+        machine.new.patterns.nodes.items machine.new.at)
+        units (map token unit.old.items) (token end.entry) result }
 {
     let place = end.place;
     match advance(machine, grammar, said, unit, end) {
@@ -218,8 +229,8 @@ where
     }
 }
 
-/// Reads the words of a text into the record of the units that they are, or says at which word the text is refused, and why.
-/// Of the words it keeps those of the open unit alone.
+/// Reads the words of a text into the record of the units that they are, or says at which word the text is refused, and
+/// why. Of the words it keeps those of the open unit alone.
 pub fn read_words<'a, G: Grammar<'a>, I: Source<'a>>(
     alloc: Global,
     grammar: &G,

@@ -5,9 +5,11 @@ ghost use Rattle.reading.specs.Word.{Token, token, form_of, end_at as end_token,
 ghost use Rattle.reading.specs.inside.Items.{words_to_come};
 ghost use Rattle.reading.specs.Source.{Steps};
 ghost use Rattle.reading.specs.Outcome.{Reads, FitsMode};
+ghost use Rattle.reading.specs.Error.{ReadsRecord};
 ghost use Rattle.text_lex.specs.Split.{token_of};
 
 use crate::engine::read_words;
+use crate::error::{ErrorKind, ReadError};
 use crate::grammar::Grammar;
 use crate::reader::{Reader, read_by_hand};
 use crate::refusal::Refusal;
@@ -99,6 +101,28 @@ where
         ended: false,
     };
     read_words(alloc, grammar, said, &mut items)
+}
+
+/// Reads a text into the record of the units that it is. The error has the place and the kind of the text's one
+/// refusal.
+pub fn read_into<'a, G: Grammar<'a>>(
+    alloc: Global,
+    grammar: &G,
+    said: &mut G::Record,
+    text: &'a [u8],
+    mode: Mode,
+) -> Result<(), ReadError<G::Kind>>
+where
+    G::Sort: 'a,
+    G::Kind: ErrorKind,
+    requires { G.holds grammar.now said.old [] }
+    ensures { ReadsRecord G.Kind.kinds mode text.now (G.format grammar.now)
+        (λ units told. G.holds grammar.now said.new units) result }
+{
+    match read_text(alloc, grammar, said, text, mode) {
+        Ok(()) => Ok(()),
+        Err(refusal) => Err(ReadError::of(refusal)),
+    }
 }
 
 /// Reads a text by a reader that is written by hand, or says at which word it is refused, and why.

@@ -2,8 +2,10 @@
 #![tactic(auto)]
 
 mod engine;
+mod error;
 mod grammar;
 mod items;
+mod keyword;
 mod laws;
 mod machine;
 mod numbered;
@@ -16,8 +18,9 @@ mod stop;
 mod word;
 
 pub use engine::read_words;
+pub use error::{ErrorKind, ReadError};
 pub use grammar::Grammar;
-pub use items::{read_text, read_text_by_hand};
+pub use items::{read_into, read_text, read_text_by_hand};
 pub use laws::texts_have_one_result;
 pub use numbered::Numbered;
 pub use reader::{Reader, read_by_hand};
@@ -25,4 +28,4 @@ pub use refusal::{Cause, Found, Refusal};
 pub use rule::Rule;
 pub use source::Source;
 pub use stop::{Step, Stop};
-pub use word::{Form, Word};
+pub use word::{Form, Word, last_word};

@@ -1,4 +1,5 @@
-//! The tables of the engine: the patterns of a format's sections, and what is left of a pattern behind a word, once it is known.
+//! The tables of the engine: the patterns of a format's sections, and what is left of a pattern after a word, once it
+//! is known.
 ghost use Rattle.std.specs.Prelude.{◌≡◌, ◌+◌, ◌*◌, ◌<◌, ◌≤◌, ℕ, length, slice_get, Some, OnOk, IfOk, Option, List};
 ghost use Rattle.reading.specs.inside.Machine.{IsUnknown, TellsNoMore, KeepsOthers, Notes, HasRows};
 ghost use Rattle.reading.specs.inside.Patterns.{IsGraph};
@@ -9,7 +10,7 @@ use std::alloc::{AllocError, Global};
 /// How many entries a row of the table of what is left has: one for each number of a sort.
 const ROW: usize = 64;
 
-/// What is left of a pattern behind a word.
+/// What is left of a pattern after a word.
 #[derive(Clone, Copy, Debug, PartialEq, Eq)]
 pub(crate) struct Rest {
     /// The node of it.
@@ -24,7 +25,7 @@ pub(crate) struct Machine {
     pub(crate) patterns: Patterns,
     /// For each section's number the node of its pattern, where it has been built.
     pub(crate) starts: Vec<Option<usize>>,
-    /// For each node a row, by the number of a sort: what is left behind a word of the sort, where it is known.
+    /// For each node a row, by the number of a sort: what is left after a word of the sort, where it is known.
     pub(crate) lefts: Vec<Option<Rest>>,
     /// The node of what is left of the open unit's pattern.
     pub(crate) at: usize,
@@ -46,7 +47,7 @@ impl Machine {
         })
     }
 
-    /// What is known to be left of the open unit's pattern behind a word of the sort with the number.
+    /// What is known to be left of the open unit's pattern after a word of the sort with the number.
     pub(crate) fn known(&self, number: usize) -> Option<Rest>
         requires { self.now.at * 64 + number < length self.now.lefts.items }
         ensures { slice_get self.now.lefts.items (self.now.at * 64 + number) ≡ Some result }
@@ -54,7 +55,7 @@ impl Machine {
         self.lefts[self.at * ROW + number]
     }
 
-    /// Makes it known what is left of the open unit's pattern behind a word of the sort with the number.
+    /// Makes it known what is left of the open unit's pattern after a word of the sort with the number.
     pub(crate) fn note(&mut self, number: usize, rest: Rest)
         requires { self.old.at * 64 + number < length self.old.lefts.items }
         ensures lefts { Notes self.old.lefts.items self.new.lefts.items (self.old.at * 64 + number) rest }

@@ -3,7 +3,7 @@ ghost use Rattle.std.specs.Prelude.{◌≡◌, ◌≤◌, ℕ, List, Some, lengt
 /// A type with at most 64 values, each of which has a number: the sorts of a format's words, and its sections.
 pub trait Numbered: Copy {
     ghost number: { Self → ℕ };
-    // every value, in the order of their numbers
+    // Every value, in the order of their numbers.
     ghost all: { List Self };
 
     /// The number of the value.

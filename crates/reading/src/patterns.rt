@@ -1,4 +1,4 @@
-//! Patterns as nodes of one list, and what is left of one behind a word.
+//! Patterns as nodes of one list, and what is left of one after a word.
 ghost use Rattle.std.specs.Prelude.{◌≡◌, ◌≢◌, ◌<◌, IfOk, IsTrue, length, true, false};
 ghost use Rattle.reading.specs.Pattern.{Pattern, Never};
 ghost use Rattle.reading.specs.Tests.{skips};
@@ -192,7 +192,7 @@ impl Patterns {
         }
     }
 
-    /// What is left of the pattern behind a word of the sort.
+    /// What is left of the pattern after a word of the sort.
     #[cold]
     pub(crate) fn left<S: Numbered>(&mut self, sort: S, at: usize) -> Result<usize, AllocError>
         requires graph { IsGraph self.old.nodes.items }

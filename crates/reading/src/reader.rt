@@ -19,12 +19,13 @@ pub trait Reader<'a> {
     type Kind: Drop;
 
     ghost format: { Format Token Self.Sort Self.Kind };
-    // these whole units and the words of the open one have led here
+    // These whole units and the words of the open one have led here.
     ghost stands: { Self → List (List Token) → List Token → Type 0 };
 
-    /// Takes one more word: the open unit goes on behind it, or is whole with it, or the text is refused.
+    /// Takes one more word: the open unit goes on after it, or is whole with it, or the text is refused.
     fn take(&mut self, word: &Word<'a>) -> Result<Step, Stop<Self::Kind>>
-        ensures { (units : List (List Token)) (part : List Token) → stands self.old units part → Takes format (stands self.new) units part (token word.now) result };
+        ensures { (units : List (List Token)) (part : List Token) → stands self.old units part →
+            Takes format (stands self.new) units part (token word.now) result };
 
     /// The laws that the format owes: its faults are in order, and its texts end with their bytes. It does nothing.
     fn orderly(&self)

@@ -1,4 +1,5 @@
-/// A pattern of words as the source of a format writes it, built from named parts. `S` are the sorts of the format's words.
+/// A pattern of words as the source of a format writes it, built from named parts. `S` are the sorts of the format's
+/// words.
 #[derive(Drop)]
 pub enum Rule<'a, S> {
     /// No list of words: nothing may follow.

@@ -9,7 +9,7 @@ use text_lex::LexError;
 pub trait Source<'a> {
     ghost left: { Self → Text Token };
 
-    /// The next word, None behind the end of the text, or the refusal of the next word.
+    /// The next word, None after the end of the text, or the refusal of the next word.
     fn next(&mut self) -> Result<Option<Word<'a>>, LexError>
         ensures { Steps (left self.old) result (left self.new) };
 }

@@ -6,7 +6,7 @@ use outside::Place;
 /// What a word did to the open unit.
 #[derive(Clone, Copy, Debug, PartialEq, Eq)]
 pub enum Step {
-    /// The unit goes on behind it.
+    /// The unit goes on after it.
     Open,
     /// The unit is whole with it.
     Whole,

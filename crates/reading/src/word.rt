@@ -1,3 +1,6 @@
+ghost use Rattle.std.specs.Prelude.{◌≡◌, [], map, Some, IfNone, IfSome};
+ghost use Rattle.reading.specs.Word.{token, last_of};
+
 use outside::Place;
 
 /// How a word stands in its text.
@@ -26,4 +29,12 @@ pub struct Word<'a> {
     pub place: Place,
     /// How it stands there.
     pub form: Form,
+}
+
+/// The last word of a unit.
+pub fn last_word<'a, 'b>(unit: &'b [Word<'a>]) -> Option<&'b Word<'a>>
+    ensures none { IfNone result (map token unit.now ≡ []) }
+    ensures some { IfSome result (λ word. last_of (map token unit.now) ≡ Some (token word.now)) }
+{
+    unit.last()
 }

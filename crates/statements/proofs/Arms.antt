@@ -2,9 +2,9 @@
 use Rattle.std.specs.Prelude.{codes}
 use Rattle.std.proofs.Common.{◌≡◌, ℕ, ◌+◌, Bool, true, false, List, [], ◌∷◌, refl, ap, arith}
 use Rattle.reading.specs.declared.word.Form.TheVariants.{Bare, End}
-use Rattle.reading.specs.Words.{Token}
+use Rattle.reading.specs.Word.{Token}
 use Rattle.reading.specs.Pattern.{Matches, Begins}
-use Rattle.reading.specs.Taking.{GoesOn, Closes, Faulty}
+use Rattle.reading.specs.Reader.{GoesOn, Closes, Faulty}
 use Rattle.statements.specs.declared.by_hand.Seen.TheVariants.{Nothing, Keyword, Name, Number}
 use Rattle.statements.specs.declared.sort.Sort.{Sort}
 use Rattle.statements.specs.declared.sort.Sort.TheVariants.{Set, Semicolon, TextEnd}

@@ -1,7 +1,7 @@
 -- Which words a unit has.
 use Rattle.std.proofs.Common.{◌≡◌, true, List, [], ◌∷◌, inl, inr, refl, sym, subst}
 use Rattle.reading.specs.Pattern.{Matches}
-use Rattle.reading.specs.Words.{Token}
+use Rattle.reading.specs.Word.{Token}
 use Rattle.statements.specs.Sorts.{sort_of}
 use Rattle.statements.specs.Rules.{is_set, is_name, is_number, is_semicolon, is_end, statement, unit}
 

@@ -1,6 +1,6 @@
 -- Where the reader that is written by hand stands.
 use Rattle.std.specs.Prelude.{◌≡◌, true, List, [], ◌∷◌}
-use Rattle.reading.specs.Words.{Token}
+use Rattle.reading.specs.Word.{Token}
 use Rattle.statements.specs.declared.by_hand.Seen.{Seen}
 use Rattle.statements.specs.declared.by_hand.Seen.TheVariants.{Nothing, Keyword, Name, Number}
 use Rattle.statements.specs.declared.by_hand.Counter.{Counter}

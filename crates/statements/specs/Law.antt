@@ -4,14 +4,15 @@ use Rattle.std.proofs.Common.{◌≡◌, ℕ, Bool, true, List, [], ◌∷◌, �
 use Rattle.reading.specs.declared.word.Form.{Form}
 use Rattle.reading.specs.declared.word.Form.TheVariants.{Bare, End}
 use Rattle.reading.specs.declared.refusal.Found.{Found}
-use Rattle.reading.specs.Words.{Token}
-use Rattle.reading.specs.Left.{HasSamples}
+use Rattle.reading.specs.Word.{Token}
+use Rattle.reading.specs.Tests.{HasSamples}
 use Rattle.reading.specs.Grammar.{IsRegular}
 use Rattle.reading.specs.Laws.{IsImmediate, immediate}
 use Rattle.statements.specs.declared.grammar.Kind.{Kind}
 use Rattle.statements.specs.declared.sort.Sort.{Sort}
 use Rattle.statements.specs.declared.sort.Sort.TheVariants.{Set, Semicolon, Bracket, Other, TextEnd}
 use Rattle.statements.specs.declared.sort.Section.{Section}
+use Rattle.statements.specs.declared.sort.Section.TheVariants.{Statements}
 use Rattle.statements.specs.Sorts.{all_sorts, sort_of_word, sort_of}
 use Rattle.statements.specs.Statements.{pattern_of, fault_of, statements_format}
 
@@ -47,7 +48,10 @@ faults = record { last = λ units. last; one = λ units. one }
 pub regular : IsRegular all_sorts pattern_of statements_format
 regular = record {
   usable = every;
-  samples = λ units c follows. samples c;
+  place = λ units. Statements;
+  follow = λ units. refl;
+  samples = λ units. samples Statements;
+  begun = refl;
   end = TextEnd;
   ends = λ units. ends;
   units = λ c. record { solid = inr refl; closes = refl; comes_last = refl };

@@ -2,7 +2,8 @@
 use Rattle.std.specs.Prelude.{ℕ, List, [], ◌∷◌, ◌||◌, codes, bytes_eq, if◌then◌else◌}
 use Rattle.reading.specs.declared.word.Form.{Form}
 use Rattle.reading.specs.declared.word.Form.TheVariants.{Bare, End}
-use Rattle.reading.specs.Words.{Token}
+use Rattle.reading.specs.Keyword.{keyword_or}
+use Rattle.reading.specs.Word.{Token}
 use Rattle.statements.specs.declared.sort.Sort.{Sort}
 use Rattle.statements.specs.declared.sort.Sort.TheVariants.{Set, Semicolon, Bracket, Other, TextEnd}
 use Rattle.statements.specs.declared.sort.Section.{Section}
@@ -21,10 +22,7 @@ all_sorts = Set ∷ Semicolon ∷ Bracket ∷ Other ∷ TextEnd ∷ []
 -- the sort of a bare word
 abbrev pub sort_of_text : List ℕ → Sort
 sort_of_text text =
-    if bytes_eq text (codes "SET") then Set
-    else if bytes_eq text (codes ";") then Semicolon
-    else if bytes_eq text (codes "(") || bytes_eq text (codes ")") then Bracket
-    else Other
+    keyword_or ((codes "SET", Set) ∷ (codes ";", Semicolon) ∷ (codes "(", Bracket) ∷ (codes ")", Bracket) ∷ []) Other text
 
 -- A word in quotes is no keyword and no mark.
 abbrev pub sort_of_word : Form → List ℕ → Sort

@@ -5,7 +5,7 @@ use Rattle.std.specs.Char.{is_ascii_digit}
 use Rattle.reading.specs.declared.refusal.Found.{Found}
 use Rattle.reading.specs.Pattern.{Pattern}
 use Rattle.reading.specs.Reading.{Format}
-use Rattle.reading.specs.Words.{Token}
+use Rattle.reading.specs.Word.{Token}
 use Rattle.statements.specs.declared.sort.Sort.{Sort}
 use Rattle.statements.specs.declared.sort.Section.{Section}
 use Rattle.statements.specs.declared.grammar.Kind.{Kind}
@@ -26,7 +26,7 @@ abbrev pub pattern_of : Section → Pattern Sort
 pattern_of section = unit
 
 abbrev pub statements_format : Format Token Sort Kind
-statements_format = record { sort = λ units. sort_of; follow = λ units. unit; fault = λ units. fault_of }
+statements_format = record { sort = λ units. sort_of; follow = λ units. unit; fault = λ units. fault_of; ends = λ units. false }
 
 -- one for a statement, and none for the end of the text
 abbrev pub count_in : List Token → ℕ

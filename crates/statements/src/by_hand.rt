@@ -1,7 +1,7 @@
 //! The same count by a reader that is written by hand.
 ghost use Rattle.std.specs.Prelude.{◌≡◌, Ok};
 ghost use Rattle.text_lex.specs.declared.word.Mode.TheVariants.{LefDef};
-ghost use Rattle.reading.specs.Taking.{Reads};
+ghost use Rattle.reading.specs.Outcome.{Reads};
 ghost use Rattle.statements.specs.Statements.{statements_format, count_of};
 ghost use Rattle.statements.specs.ByHand.{Stands};
 

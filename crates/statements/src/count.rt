@@ -1,7 +1,7 @@
 //! The count of a text's statements.
 ghost use Rattle.std.specs.Prelude.{◌≡◌, Ok};
 ghost use Rattle.text_lex.specs.declared.word.Mode.TheVariants.{LefDef};
-ghost use Rattle.reading.specs.Taking.{Reads};
+ghost use Rattle.reading.specs.Outcome.{Reads};
 ghost use Rattle.statements.specs.Statements.{statements_format, count_of};
 
 use crate::grammar::{Kind, Statements};

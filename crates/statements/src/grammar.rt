@@ -2,14 +2,14 @@
 ghost use Rattle.std.specs.Prelude.{◌≡◌, true, false, IfNone, IfSome, map};
 ghost use Rattle.std.specs.List.{list_all};
 ghost use Rattle.std.specs.Char.{is_ascii_digit};
-ghost use Rattle.reading.specs.Words.{token};
+ghost use Rattle.reading.specs.Word.{token};
 ghost use Rattle.reading.specs.Grammar.{IsRegular};
 ghost use Rattle.statements.specs.Sorts.{sort_of_text, sort_of, all_sorts};
 ghost use Rattle.statements.specs.Statements.{is_whole as whole, statements_format, pattern_of, count_in, count_of};
 
 use crate::rule::UNIT;
 use crate::sort::{Section, Sort};
-use reading::{Form, Found, Grammar, Rule, Word};
+use reading::{Form, Found, Grammar, Rule, Word, keyword_or};
 use std::alloc::AllocError;
 
 /// What is wrong with a statement.
@@ -26,15 +26,12 @@ pub(crate) struct Statements;
 fn sort_of_text(text: &[u8]) -> Sort
     ensures { result ≡ sort_of_text text.now }
 {
-    if text == b"SET".as_slice() {
-        Sort::Set
-    } else if text == b";".as_slice() {
-        Sort::Semicolon
-    } else if text == b"(".as_slice() || text == b")".as_slice() {
-        Sort::Bracket
-    } else {
-        Sort::Other
-    }
+    keyword_or!(text;
+        b"SET" => Sort::Set,
+        b";" => Sort::Semicolon,
+        b"(" => Sort::Bracket,
+        b")" => Sort::Bracket;
+        Sort::Other)
 }
 
 /// The sort of a word, wherever it stands.
@@ -118,6 +115,10 @@ impl<'a> Grammar<'a> for Statements {
             [_, _, number] => not_whole(number),
             _ => None,
         }
+    }
+
+    fn ends(&self, _: &u64) -> bool {
+        false
     }
 
     fn take(&self, said: &mut u64, unit: &[Word<'a>]) -> Result<(), AllocError> {

@@ -1,6 +1,6 @@
 //! Texts whose statements were counted by hand.
 ghost use Rattle.std.specs.Prelude.{[], ◌∷◌, ◌++◌, drop, map, cond, None};
-ghost use Rattle.reading.specs.Words.{token, end_at};
+ghost use Rattle.reading.specs.Word.{token, end_at};
 
 use crate::by_hand::count_by_hand;
 use crate::count::count_statements;

@@ -18,11 +18,14 @@ use Rattle.reading.specs.declared.refusal.Refusal.TheVariants as refusals
 use Rattle.reading.specs.declared.stop.Stop.TheVariants as stops
 
 -- The node of the pattern of what may follow these units.
-abbrev pub StartsAt : {S C K : Type 0} → (S → ℕ) → (C → Pattern S) → Format Token S K → List Node → ℕ → List (List Token) → Type 0
-StartsAt {C = C} number pattern f nodes at units = (c : C) × (f.follow units ≡ pattern c) × Denotes number nodes at (pattern c)
+abbrev pub StartsAt : {S C K : Type 0} → (S → ℕ) → (C → Pattern S) → Format Token S K → List Node → ℕ →
+    List (List Token) → Type 0
+StartsAt {C = C} number pattern f nodes at units =
+    (c : C) × (f.follow units ≡ pattern c) × Denotes number nodes at (pattern c)
 
 -- Where the loop stands: what has been read of the whole units, and what is left of the open one's pattern.
-pub record StandsAt {S C K : Type 0} (number : S → ℕ) (pattern : C → Pattern S) (f : Format Token S K) (holds : List (List Token) → Type 0)
+pub record StandsAt {S C K : Type 0} (number : S → ℕ) (pattern : C → Pattern S) (f : Format Token S K)
+    (holds : List (List Token) → Type 0)
     (nodes : List Node) (at : ℕ) (units : List (List Token)) (part : List Token) : Type 0 where
   pub held : holds units
   pub section : C
@@ -30,8 +33,9 @@ pub record StandsAt {S C K : Type 0} (number : S → ℕ) (pattern : C → Patte
   pub rest : Denotes number nodes at (lefts (f.sort units) (pattern section) part)
   pub fine : NoneShows f units [] part
 
--- The unit's words so far, of which the last has this sort, stand behind some whole units where the loop stands.
-pub record OpensUnit {S C K : Type 0} (number : S → ℕ) (pattern : C → Pattern S) (f : Format Token S K) (holds : List (List Token) → Type 0)
+-- The unit's words so far, of which the last has this sort, stand after some whole units where the loop stands.
+pub record OpensUnit {S C K : Type 0} (number : S → ℕ) (pattern : C → Pattern S) (f : Format Token S K)
+    (holds : List (List Token) → Type 0)
     (nodes : List Node) (at : ℕ) (unit : List Token) (sort : S) : Type 0 where
   pub units : List (List Token)
   pub part : List Token
@@ -40,11 +44,13 @@ pub record OpensUnit {S C K : Type 0} (number : S → ℕ) (pattern : C → Patt
   pub sort_is : sort ≡ f.sort units last
   pub stands : StandsAt number pattern f holds nodes at units part
 
--- The unit's words so far stand behind some whole units where the loop stands.
-abbrev pub Stands : {S C K : Type 0} → (S → ℕ) → (C → Pattern S) → Format Token S K → (List (List Token) → Type 0) → List Node → ℕ → List Token → Type 0
-Stands number pattern f holds nodes at part = (units : List (List Token)) × StandsAt number pattern f holds nodes at units part
+-- The unit's words so far stand after some whole units where the loop stands.
+abbrev pub Stands : {S C K : Type 0} → (S → ℕ) → (C → Pattern S) → Format Token S K → (List (List Token) → Type 0) →
+    List Node → ℕ → List Token → Type 0
+Stands number pattern f holds nodes at part = (units : List (List Token))
+    × StandsAt number pattern f holds nodes at units part
 
--- the words of the open unit behind a word
+-- The words of the open unit after a word.
 abbrev pub part_after : Step → List Token → List Token
 part_after Open part = part
 part_after Whole part = []

@@ -3,19 +3,19 @@ use Rattle.reading.specs.Pattern.{Pattern, Never, Empty, Then, Or, One, Many}
 use Rattle.std.specs.Prelude.{cond, List, [], ◌∷◌}
 use Rattle.reading.specs.Tests.{skips}
 
--- the first, then the second
+-- The first, then the second.
 abbrev pub seq : {S : Type 0} → Pattern S → Pattern S → Pattern S
 seq Never q = Never
 seq Empty q = q
 seq p q = Then p q
 
--- the first or the second
+-- The first or the second.
 abbrev pub alt : {S : Type 0} → Pattern S → Pattern S → Pattern S
 alt Never q = q
 alt p Never = p
 alt p q = Or p q
 
--- what is left behind a word of the sort
+-- What is left after a word of the sort.
 abbrev pub left : {S : Type 0} → S → Pattern S → Pattern S
 left s Never = Never
 left s Empty = Never
@@ -24,7 +24,7 @@ left s (Then p q) = cond (skips p) (alt (seq (left s p) q) (left s q)) (seq (lef
 left s (Or p q) = alt (left s p) (left s q)
 left s (Many p) = seq (left s p) (Many p)
 
--- what is left behind words
+-- What is left after words.
 abbrev pub lefts : {W S : Type 0} → (W → S) → Pattern S → List W → Pattern S
 lefts sort p [] = p
 lefts sort p (w ∷ ws) = lefts sort (left (sort w) p) ws

@@ -10,44 +10,46 @@ use Rattle.reading.specs.declared.patterns.Standing.TheVariants.{Nowhere, Open, 
 use Rattle.reading.specs.Tests.{skips}
 use Rattle.reading.specs.declared.patterns.Node.TheVariants as nodes
 
--- the parts of the node stand before n
+-- The parts of the node stand before n.
 abbrev pub PartsBelow : ℕ → Node → Type 0
 PartsBelow n (nodes.Then a b) = (a < n) × (b < n)
 PartsBelow n (nodes.Or a b) = (a < n) × (b < n)
 PartsBelow n (nodes.Many a) = a < n
 PartsBelow n _ = Unit {0}
 
--- each node's parts stand before it
+-- Each node's parts stand before it.
 abbrev pub IsGraph : List Node → Type 0
 IsGraph list = (i : ℕ) (node : Node) → slice_get list i ≡ Some node → PartsBelow i node
 
--- new has the nodes of old in front
+-- New has the nodes of old in front.
 abbrev pub Extends : List Node → List Node → Type 0
 Extends old new = (more : List Node) × (new ≡ old ++ more)
 
--- whether the bit of this number is 1
+-- Whether the bit of this number is 1.
 abbrev pub among : ℕ → ℕ → Bool
 among n set = nat_eq (set / 2 ^ n % 2) 1
 
--- the set with one more number in it
+-- The set with one more number in it.
 abbrev pub IsWith : ℕ → ℕ → ℕ → Type 0
 IsWith set number new = (n : ℕ) → among n new ≡ (nat_eq number n || among n set)
 
--- the set with just the numbers below 64 that are not in it
+-- The set with just the numbers below 64 that are not in it.
 abbrev pub IsWithout : ℕ → ℕ → Type 0
 IsWithout set new = (n : ℕ) → n < 64 → among n new ≡ not (among n set)
 
--- the bits of the numbers of the sorts in the class are 1, and those of the others 0
+-- The bits of the numbers of the sorts in the class are 1, and those of the others 0.
 abbrev pub IsSet : {S : Type 0} → (S → ℕ) → ℕ → (S → Bool) → Type 0
 IsSet {S} number set class = (s : S) → among (number s) set ≡ class s
 
--- the node at the place is the pattern
+-- The node at the place is the pattern.
 abbrev pub Denotes : {S : Type 0} → (S → ℕ) → List Node → ℕ → Pattern S → Type 0
 Denotes number list at Never = slice_get list at ≡ Some nodes.Never
 Denotes number list at Empty = slice_get list at ≡ Some nodes.Empty
 Denotes number list at (One class) = (set : ℕ) × (slice_get list at ≡ Some (nodes.One set)) × IsSet number set class
-Denotes number list at (Then p q) = (a : ℕ) × (b : ℕ) × (slice_get list at ≡ Some (nodes.Then a b)) × Denotes number list a p × Denotes number list b q
-Denotes number list at (Or p q) = (a : ℕ) × (b : ℕ) × (slice_get list at ≡ Some (nodes.Or a b)) × Denotes number list a p × Denotes number list b q
+Denotes number list at (Then p q) = (a : ℕ) × (b : ℕ) × (slice_get list at ≡ Some (nodes.Then a b))
+    × Denotes number list a p × Denotes number list b q
+Denotes number list at (Or p q) = (a : ℕ) × (b : ℕ) × (slice_get list at ≡ Some (nodes.Or a b))
+    × Denotes number list a p × Denotes number list b q
 Denotes number list at (Many p) = (a : ℕ) × (slice_get list at ≡ Some (nodes.Many a)) × Denotes number list a p
 
 -- What building a node leads to: old patterns stay, and the new node is at its place.
@@ -63,11 +65,12 @@ pub record Grown (old new : List Node) (at : ℕ) : Type 0 where
   pub within : at < length new
 
 -- The new pattern is what join makes of the two.
-pub record Joins {S : Type 0} (number : S → ℕ) (join : Pattern S → Pattern S → Pattern S) (old new : List Node) (a b at : ℕ) : Type 0 where
+pub record Joins {S : Type 0} (number : S → ℕ) (join : Pattern S → Pattern S → Pattern S) (old new : List Node)
+    (a b at : ℕ) : Type 0 where
   pub grown : Grown old new at
   pub is : (p q : Pattern S) → Denotes number old a p → Denotes number old b q → Denotes number new at (join p q)
 
--- The new pattern is what is left behind a word of the sort.
+-- The new pattern is what is left after a word of the sort.
 pub record Leaves {S : Type 0} (number : S → ℕ) (sort : S) (old new : List Node) (at rest : ℕ) : Type 0 where
   pub grown : Grown old new rest
   pub is : (p : Pattern S) → Denotes number old at p → Denotes number new rest (left sort p)
@@ -77,11 +80,11 @@ pub record Built {S : Type 0} (number : S → ℕ) (rule : Rule S) (old new : Li
   pub grown : Grown old new at
   pub is : (p : Pattern S) → IsRule number rule p → Denotes number new at p
 
--- where this is left
+-- Where this is left.
 abbrev pub standing_of : {S : Type 0} → Pattern S → Standing
 standing_of Never = Nowhere
 standing_of p = cond (skips p) Whole Open
 
--- where the pattern of the node is left
+-- Where the pattern of the node is left.
 abbrev pub IsStanding : {S : Type 0} → (S → ℕ) → List Node → ℕ → Standing → Type 0
 IsStanding {S} number nodes at standing = (p : Pattern S) → Denotes number nodes at p → standing ≡ standing_of p

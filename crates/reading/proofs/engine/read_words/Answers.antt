@@ -63,8 +63,8 @@ finish-requires g c =
     let steps = subst (λ z. Steps (g.I.Source.left c.loop-word.source) (Ok z) after) c.in-Ok-Some.field-0-is c.in-Ok-Some.ensures in
     let end = end_at (next_on_line c.in-Ok-Some.word.place) in
     let e = subst (λ z. AtEnd f new text end z) (sym c.in-Ok-advance.ensures.unit)
-        (end-more f old new text _ after _ c.in-Ok-Some.word c.in-Ok-advance.done a.at steps (c.in-Ok-advance.ensures.takes a.at.units a.at.there)
-        (λ units p there. c.has_ended.ensures units there.held ∙ c.if-has_ended.true) a.past) in
+    (end-more f old new text _ after _ c.in-Ok-Some.word c.in-Ok-advance.done a.at steps (c.in-Ok-advance.ensures.takes a.at.units a.at.there)
+    (λ units p there. c.has_ended.ensures units there.held ∙ c.if-has_ended.true) a.past) in
     λ k. ((refl, tt), (c.in-Ok-advance.ensures.ready, (c.in-Ok-advance.ensures.within, (e.at.units, e.at.there))))
 
 pub returns-then-has_ended : goal.returns-then-has_ended
@@ -78,8 +78,8 @@ returns-then-has_ended g c =
     let steps = subst (λ z. Steps (g.I.Source.left c.loop-word.source) (Ok z) after) c.in-Ok-Some.field-0-is c.in-Ok-Some.ensures in
     let end = end_at (next_on_line c.in-Ok-Some.word.place) in
     let e = subst (λ z. AtEnd f new text end z) (sym c.in-Ok-advance.ensures.unit)
-        (end-more f old new text _ after _ c.in-Ok-Some.word c.in-Ok-advance.done a.at steps (c.in-Ok-advance.ensures.takes a.at.units a.at.there)
-        (λ units p there. c.has_ended.ensures units there.held ∙ c.if-has_ended.true) a.past) in
+    (end-more f old new text _ after _ c.in-Ok-Some.word c.in-Ok-advance.done a.at steps (c.in-Ok-advance.ensures.takes a.at.units a.at.there)
+    (λ units p there. c.has_ended.ensures units there.held ∙ c.if-has_ended.true) a.past) in
     let last = StandsAt g.G.Sort.Numbered.number g.G.Grammar.pattern f (g.G.Grammar.holds c.args.grammar.now c.finish.new.said) c.finish.new.machine.patterns.nodes.items c.finish.new.machine.at in
     end-gives f new last (g.G.Grammar.holds c.args.grammar.now c.finish.new.said) text end _ c.end_after.result c.regular.ensures.orderly (λ units p there. there.held) e
     (sym c.end_after.ensures) c.finish.result (c.finish.ensures e.at.units e.at.there)

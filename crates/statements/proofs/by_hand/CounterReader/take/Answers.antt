@@ -1,6 +1,6 @@
 use Rattle.std.proofs.Common.{◌≡◌, true, subst, sym, ◌∙◌, arith}
-use Rattle.reading.specs.Words.{token}
-use Rattle.reading.specs.Taking.{Closes}
+use Rattle.reading.specs.Word.{token}
+use Rattle.reading.specs.Reader.{Closes}
 use Rattle.statements.specs.Rules.{is_name, is_number}
 use Rattle.statements.specs.Statements.{statements_format}
 use Rattle.statements.specs.ByHand.{IsSeen, Stands}

@@ -1,5 +1,5 @@
 use Rattle.std.proofs.Common.{map, arith}
-use Rattle.reading.specs.Words.{token}
+use Rattle.reading.specs.Word.{token}
 use Rattle.statements.proofs.Counts.{count-more}
 use Rattle.statements.proofs.grammar.StatementsGrammar.take.Goals as goal
 

@@ -1,6 +1,6 @@
 use Rattle.std.proofs.Common.{refl}
 use Rattle.reading.proofs.Stepping.{ready-noted}
-use Rattle.reading.proofs.engine.behind.Goals as goal
+use Rattle.reading.proofs.engine.left_after.Goals as goal
 
 pub returns-clause-ready : goal.returns-clause-ready
 returns-clause-ready g c =

@@ -4,10 +4,10 @@ use Rattle.std.specs.Prelude.{unsigned_abs}
 use Rattle.std.proofs.Math.Nat.{mul-le-mul_right}
 use Rattle.fixed_decimal.specs.declared.digits.Digits.{Digits}
 use Rattle.fixed_decimal.specs.declared.scale.Scale.{Scale}
-use Rattle.fixed_decimal.specs.Kept.{IsCapped, Describes}
+use Rattle.fixed_decimal.specs.inside.Kept.{IsCapped, Describes}
 use Rattle.fixed_decimal.specs.Number.{Number}
 use Rattle.fixed_decimal.specs.Spice.{scaled}
-use Rattle.fixed_decimal.specs.Value.{IsNearest, IsMagnitude, IsRead, IsAbove, Vanishes, signed}
+use Rattle.fixed_decimal.specs.Value.{IsNearest, IsMagnitude, IsWithin, IsAbove, Vanishes, signed}
 use Rattle.fixed_decimal.proofs.Keeping.{capped_add}
 use Rattle.fixed_decimal.proofs.Powers.{ten_pos, ten_add}
 use Rattle.fixed_decimal.proofs.Rounding.{nearest_exists, nearest_reaches}
@@ -59,7 +59,7 @@ module _ (n : Number) (digits : Digits) (up down : ℕ) (scale : Scale) (places 
       let large : 10 ^ 37 + 1 ≤ (2 * num + den) / (2 * den) = nearest_reaches num den ((2 * num + den) / (2 * den)) (10 ^ 37 + 1) nearest far in
       record { magnitude = (2 * num + den) / (2 * den); nearest = nearest; above = omega arith }
 
-  -- a number other than 0 is one whose kept digits are other than 0
+  -- A number other than 0 is one whose kept digits are other than 0.
   pub other_than_zero : 0 < digits.kept → 0 < (scaled n scale).numerator
   other_than_zero some =
       let one : 1 * 10 ^ digits.dropped ≤ digits.kept * 10 ^ digits.dropped = mul-le-mul_right (10 ^ digits.dropped) (omega arith) in
@@ -89,7 +89,7 @@ module _ (n : Number) (digits : Digits) (up down : ℕ) (scale : Scale) (places 
   pub above_is : (m : ℕ) → limit < m → IsNearestOf digits u v m → IsAbove (scaled n scale) places limit
   above_is m more a = record { magnitude = m; nearest = magnitude_is m a; above = more }
 
-  pub read_is : (m : ℕ) → m ≤ limit → (m ≡ 0 → digits.kept ≡ 0) → IsNearestOf digits u v m → IsRead (scaled n scale) places limit (signed n.negative m)
+  pub read_is : (m : ℕ) → m ≤ limit → (m ≡ 0 → digits.kept ≡ 0) → IsNearestOf digits u v m → IsWithin (scaled n scale) places limit (signed n.negative m)
   read_is m most other a = record {
     value = record { magnitude = m; nearest = magnitude_is m a; is = refl };
     within = (let e = abs_signed n.negative m in omega arith);

@@ -5,7 +5,7 @@ use Rattle.std.proofs.lemmas.Int.{ints, by_lt_z}
 use borrow.Author.Differences.{le_out, lt_out, sum_is_lem}
 use Rattle.fixed_decimal.specs.Printed.{IsRoundedDown, IsRoundedUp}
 
--- a product grows with its second factor
+-- A product grows with its second factor.
 times_le : (k : ℕ) (x y : ℤ) → x ≤ℤ y → (pos k *ℤ x) ≤ℤ (pos k *ℤ y)
 times_le k x y le = omega (arith, ints, mul-le-mul_left k (le_out x y le))
 
@@ -15,7 +15,7 @@ times_lt k x y lt = omega (arith, ints, mul-le-mul_left k (lt_out x y lt))
 times_next : (k : ℕ) (x : ℤ) → pos k *ℤ (x +ℤ pos 1) ≡ pos k *ℤ x +ℤ pos k
 times_next k x = omega (arith, ints, ap (λ n. k * n) (sum_is_lem x (pos 1)))
 
--- the quotient and the rest
+-- The quotient and the rest.
 quotient_is : (z : ℤ) (u : ℕ) → 0 < u → (k : ℕ) × (int_rem_euclid z (pos u) ≡ pos k) × (k < u) × (z ≡ pos u *ℤ int_div_euclid z (pos u) +ℤ pos k)
 quotient_is (pos a) u some =
     let sum = div-add-mod' a u in

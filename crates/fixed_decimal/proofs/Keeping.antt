@@ -2,10 +2,10 @@
 use Rattle.std.proofs.Common.{◌≡◌, ℕ, ◌+◌, ◌*◌, ◌^◌, ◌<◌, ◌≤◌, arith, ap, inl, inr}
 use Rattle.std.proofs.lemmas.Bool.{cases_lt}
 use Rattle.fixed_decimal.specs.declared.digits.Digits.{Digits}
-use Rattle.fixed_decimal.specs.Kept.{Keeps, IsCapped}
+use Rattle.fixed_decimal.specs.inside.Kept.{Keeps, IsCapped}
 use Rattle.fixed_decimal.proofs.Powers.{ten_suc}
 
--- a digit that is kept
+-- A digit that is kept.
 pub keeps_more : (n d : ℕ) (digits : Digits) → d < 10 → digits.kept ≤ 10 ^ 37 → Keeps n digits → Keeps (n * 10 + d) (record { kept = digits.kept * 10 + d; dropped = digits.dropped })
 keeps_more n d digits small most k = elim (cases_lt 0 digits.dropped) [
   | inl some ↦ absurd (omega (arith, k.full some))
@@ -25,7 +25,7 @@ keeps_more n d digits small most k = elim (cases_lt 0 digits.dropped) [
       }
 ]
 
--- a digit that is dropped
+-- A digit that is dropped.
 pub keeps_on : (n d : ℕ) (digits : Digits) → d < 10 → 10 ^ 37 < digits.kept → Keeps n digits → Keeps (n * 10 + d) (record { kept = digits.kept; dropped = digits.dropped + 1 })
 keeps_on n d digits small most k =
     let step = ten_suc digits.dropped in
@@ -40,14 +40,14 @@ keeps_on n d digits small most k =
       fits = k.fits;
     }
 
--- an exponent that is counted on, and one that is not
+-- An exponent that is counted on, and one that is not.
 pub capped_more : (n d counted : ℕ) → counted < 10 ^ 21 → IsCapped n counted → IsCapped (n * 10 + d) (counted * 10 + d)
 capped_more n d counted small c = let e = c.exact small in record { most = omega arith; exact = λ _. omega arith }
 
 pub capped_on : (n d counted : ℕ) → 10 ^ 21 ≤ counted → IsCapped n counted → IsCapped (n * 10 + d) counted
 capped_on n d counted large c = let m = c.most in record { most = omega arith; exact = λ small. absurd (omega arith) }
 
--- the same number added on both sides
+-- The same number added on both sides.
 pub capped_add : (n counted by : ℕ) → IsCapped n counted → IsCapped (n + by) (counted + by)
 capped_add n counted by c =
     let m = c.most in

@@ -1,6 +1,7 @@
 pub mod Answering
 pub mod Floors
 pub mod Keeping
+pub mod Integers
 pub mod TextLaws
 pub mod Longest
 pub mod Powers

@@ -15,7 +15,7 @@ ten_suc k = rw add-one (pow-suc 10 k)
 pub ten_add : (i j : ℕ) → 10 ^ (i + j) ≡ 10 ^ i * 10 ^ j
 ten_add i j = pow-add 10 i j
 
--- a power of ten above the first is even
+-- A power of ten above the first is even.
 pub ten_even : (k : ℕ) → 0 < k → (h : ℕ) × (10 ^ k ≡ h + h)
 ten_even zero h = absurd (omega arith)
 ten_even (suc k) h = (10 ^ k * 5, omega (arith, pow-suc 10 k))

@@ -4,7 +4,7 @@ use Rattle.std.proofs.lemmas.Bool.{cases_lt}
 use Rattle.std.proofs.Math.Nat.{mul-le-mul_right}
 use Rattle.fixed_decimal.specs.Value.{IsNearest}
 
--- the nearest number is at most any other nearest one
+-- The nearest number is at most any other nearest one.
 nearest_le : (n d m k : ℕ) → IsNearest n d m → IsNearest n d k → m ≤ k
 nearest_le n d m k a b = elim (cases_lt k m) [
   | inl less ↦
@@ -18,7 +18,7 @@ nearest_le n d m k a b = elim (cases_lt k m) [
 pub nearest_unique : (n d m k : ℕ) → IsNearest n d m → IsNearest n d k → m ≡ k
 nearest_unique n d m k a b = let x = nearest_le n d m k a b in let y = nearest_le n d k m b a in omega arith
 
--- there is one
+-- There is one.
 pub nearest_exists : (n d : ℕ) → 0 < d → IsNearest n d ((2 * n + d) / (2 * d))
 nearest_exists n d h =
     let sum = div-add-mod' (2 * n + d) (2 * d) in
@@ -27,7 +27,7 @@ nearest_exists n d h =
     let right : ((2 * n + d) / (2 * d) + 1) * d ≡ (2 * n + d) / (2 * d) * d + d = omega arith in
     record { reached = omega arith; below = omega arith }
 
--- it is at least each whole number that the fraction reaches
+-- It is at least each whole number that the fraction reaches.
 pub nearest_reaches : (n d m k : ℕ) → IsNearest n d m → k * d ≤ n → k ≤ m
 nearest_reaches n d m k a h = elim (cases_lt m k) [
   | inl less ↦
@@ -37,20 +37,20 @@ nearest_reaches n d m k a h = elim (cases_lt m k) [
   | inr most ↦ most
 ]
 
--- a whole number is nearest to itself
+-- A whole number is nearest to itself.
 pub nearest_whole : (m d : ℕ) → 0 < d → IsNearest (m * d) d m
 nearest_whole m d h = record { reached = omega arith; below = omega arith }
 
--- both numbers may be multiplied
+-- Both numbers may be multiplied.
 pub nearest_times : (n d m k : ℕ) → 0 < k → IsNearest n d m → IsNearest (n * k) (d * k) m
 nearest_times n d m k h a =
     let low : (2 * (m * d)) * k ≤ (2 * n + d) * k = mul-le-mul_right k a.reached in
     let more : (2 * n + d + 1) * k ≤ (2 * ((m + 1) * d)) * k = let below = a.below in mul-le-mul_right k (omega arith) in
     record { reached = omega arith; below = omega arith }
 
--- what stands behind digits that are rounded away changes nothing, where the unit is even
-pub nearest_behind : (n d m p rest : ℕ) → ((h : ℕ) × (d ≡ h + h)) → rest < p → IsNearest n d m → IsNearest (n * p + rest) (d * p) m
-nearest_behind n d m p rest even small a =
+-- What stands after digits that are rounded away changes nothing, where the unit is even.
+pub nearest_after : (n d m p rest : ℕ) → ((h : ℕ) × (d ≡ h + h)) → rest < p → IsNearest n d m → IsNearest (n * p + rest) (d * p) m
+nearest_after n d m p rest even small a =
     let is = even.1 in
     let reached = a.reached in
     let below = a.below in
@@ -62,7 +62,7 @@ nearest_behind n d m p rest even small a =
     let whole : m * (d * p) ≡ m * ((even.0 + even.0) * p) = ap (λ x. m * x) unit in
     record { reached = omega arith; below = omega arith }
 
--- what the code computes: half a unit more, and then the whole units
+-- What the code computes: half a unit more, and then the whole units.
 pub nearest_by_halves : (n d : ℕ) → 0 < d → ((h : ℕ) × (d ≡ h + h)) → IsNearest n d ((n + d / 2) / d)
 nearest_by_halves n d some even =
     let is = even.1 in
@@ -72,7 +72,7 @@ nearest_by_halves n d some even =
     let next : ((n + d / 2) / d + 1) * d ≡ (n + d / 2) / d * d + d = omega arith in
     record { reached = omega arith; below = omega arith }
 
--- less than half a unit
+-- Less than half a unit.
 pub nearest_nothing : (n d : ℕ) → 2 * n < d → IsNearest n d 0
 nearest_nothing n d h = record { reached = omega arith; below = omega arith }
 

@@ -3,12 +3,12 @@ use Rattle.std.proofs.Common.{◌≡◌, ℕ, ◌+◌, ◌-◌, ◌*◌, ◌^◌
 use Rattle.std.proofs.lemmas.Bool.{cases_lt}
 use Rattle.std.proofs.Math.Nat.{mul-le-mul_right, mul-le-mul_left}
 use Rattle.fixed_decimal.specs.declared.digits.Digits.{Digits}
-use Rattle.fixed_decimal.specs.Kept.{Keeps, IsCapped}
+use Rattle.fixed_decimal.specs.inside.Kept.{Keeps, IsCapped}
 use Rattle.fixed_decimal.specs.Value.{IsNearest}
 use Rattle.fixed_decimal.proofs.Powers.{ten_pos, ten_add, ten_le, ten_even}
-use Rattle.fixed_decimal.proofs.Rounding.{nearest_whole, nearest_times, nearest_behind, nearest_nothing, nearest_unique}
+use Rattle.fixed_decimal.proofs.Rounding.{nearest_whole, nearest_times, nearest_after, nearest_nothing, nearest_unique}
 
--- where nothing is dropped, what is kept is the number
+-- Where nothing is dropped, what is kept is the number.
 pub all_kept : (n : ℕ) (digits : Digits) → Keeps n digits → digits.dropped ≡ 0 → n ≡ digits.kept
 all_kept n digits k none =
     let one : 10 ^ digits.dropped ≡ 1 = ap (λ e. 10 ^ e) none in
@@ -17,7 +17,7 @@ all_kept n digits k none =
     let small = k.small in
     omega arith
 
--- nothing is dropped while little is kept
+-- Nothing is dropped while little is kept.
 pub none_dropped : (n : ℕ) (digits : Digits) → Keeps n digits → digits.kept ≤ 10 ^ 37 → digits.dropped ≡ 0
 none_dropped n digits k little = elim (cases_lt 0 digits.dropped) [
   | inl some ↦ absurd (let full = k.full some in omega arith)
@@ -27,7 +27,7 @@ none_dropped n digits k little = elim (cases_lt 0 digits.dropped) [
 pub at_least_kept : (n : ℕ) (digits : Digits) → Keeps n digits → digits.kept * 10 ^ digits.dropped ≤ n
 at_least_kept n digits k = let is = k.is in omega arith
 
--- the two powers, as they are counted and as they are
+-- The two powers, as they are counted and as they are.
 pub record Powers (digits : Digits) (up down n u d : ℕ) : Type 0 where
   pub keeps : Keeps n digits
   pub up_is : IsCapped u up
@@ -76,7 +76,7 @@ module _ (digits : Digits) (up down n u d : ℕ) (p : Powers digits up down n u 
       let P : ℕ → Type 0 = λ x. IsNearest x (10 ^ d) (digits.kept * 10 ^ power) in
       subst P (sym (raised_by power sum small none)) (nearest_whole (digits.kept * 10 ^ power) (10 ^ d) (ten_pos d))
 
-  -- beyond what is kept
+  -- Beyond what is kept.
   pub beyond_dropped : down ≤ up + digits.dropped → 0 < digits.dropped → (10 ^ 37 + 1) * 10 ^ d ≤ n * 10 ^ u
   beyond_dropped h some =
       let dd : d ≡ down = down_exact h in
@@ -114,11 +114,11 @@ module _ (digits : Digits) (up down n u d : ℕ) (p : Powers digits up down n u 
     ]
   ]
 
-  -- digits that are rounded away
+  -- Digits that are rounded away.
   pub lowered_by : (power m : ℕ) → d ≡ power + (u + digits.dropped) → 0 < power → IsNearest digits.kept (10 ^ power) m → IsNearest (n * 10 ^ u) (10 ^ d) m
   lowered_by power m sum some a =
-      let behind = nearest_behind digits.kept (10 ^ power) m (10 ^ digits.dropped) p.keeps.rest (ten_even power some) p.keeps.small a in
-      let times = nearest_times (digits.kept * 10 ^ digits.dropped + p.keeps.rest) (10 ^ power * 10 ^ digits.dropped) m (10 ^ u) (ten_pos u) behind in
+      let after = nearest_after digits.kept (10 ^ power) m (10 ^ digits.dropped) p.keeps.rest (ten_even power some) p.keeps.small a in
+      let times = nearest_times (digits.kept * 10 ^ digits.dropped + p.keeps.rest) (10 ^ power * 10 ^ digits.dropped) m (10 ^ u) (ten_pos u) after in
       let order : d ≡ (power + digits.dropped) + u = omega arith in
       let unit : 10 ^ d ≡ (10 ^ power * 10 ^ digits.dropped) * 10 ^ u = ap (λ x. 10 ^ x) order ∙ (ten_add (power + digits.dropped) u ∙ ap (λ x. x * 10 ^ u) (ten_add power digits.dropped)) in
       let P : ℕ → Type 0 = λ x. IsNearest (x * 10 ^ u) ((10 ^ power * 10 ^ digits.dropped) * 10 ^ u) m in
@@ -143,11 +143,11 @@ module _ (digits : Digits) (up down n u d : ℕ) (p : Powers digits up down n u 
         subst P (sym none) (lowered_by (d - (u + digits.dropped)) 0 sum' (omega arith) (nearest_nothing digits.kept (10 ^ (d - (u + digits.dropped))) (omega arith)))
   ]
 
--- what the digits times 10^up over 10^down are nearest to
+-- What the digits times 10^up over 10^down are nearest to.
 abbrev pub IsNearestOf : Digits → ℕ → ℕ → ℕ → Type 0
 IsNearestOf digits up down m = (n u d : ℕ) → Keeps n digits → IsCapped u up → IsCapped d down → IsNearest (n * 10 ^ u) (10 ^ d) m
 
--- they are above 10^37
+-- They are above 10^37.
 abbrev pub IsBeyond : Digits → ℕ → ℕ → Type 0
 IsBeyond digits up down = (n u d : ℕ) → Keeps n digits → IsCapped u up → IsCapped d down → (10 ^ 37 + 1) * 10 ^ d ≤ n * 10 ^ u
 

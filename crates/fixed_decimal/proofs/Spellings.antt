@@ -3,27 +3,27 @@ use Rattle.std.proofs.Common.{◌≡◌, ℕ, ◌+◌, ◌<◌, Bool, true, fals
 use Rattle.std.specs.Str.Parse.{AllDigits, IsNumeral}
 use Rattle.std.specs.Char.{digit_value, is_ascii_digit, IsAsciiDigit}
 use Rattle.std.proofs.lemmas.Str.Parse.{digit_from_value}
-use Rattle.fixed_decimal.specs.Number.{Sign, absent, plus, minus, sign_text, Exponent, exponent_text, letter_text, fraction_text, fraction_digits, Spelling, IsSpelling, text_of}
-use Rattle.fixed_decimal.specs.Parts.{begins_digit, begins_point, begins_sign, begins_exponent, without_sign, EndsExponent, EndsFraction, Ends}
+use Rattle.fixed_decimal.specs.Number.{Sign, absent, plus, minus, sign_text, Exponent, exponent_text, letter_text, fraction_text, fraction_digits, Spelling, IsSpelling, spelling_text}
+use Rattle.fixed_decimal.specs.inside.Split.{begins_digit, begins_point, begins_sign, begins_exponent, without_sign, EndsExponent, EndsFraction, EndsNumber}
 
 pub is_digit : (c : ℕ) → digit_value c < 10 → is_ascii_digit c ≡ true
 is_digit c h = let r : IsAsciiDigit c = digit_from_value c h in grind arith
 
--- no digit is a sign or a point
+-- No digit is a sign or a point.
 pub digit_no_sign : (c : ℕ) (cs : List ℕ) → digit_value c < 10 → begins_sign (c ∷ cs) ≡ false
 digit_no_sign c cs h = let r : IsAsciiDigit c = digit_from_value c h in grind arith
 
 pub digit_no_point : (c : ℕ) (cs : List ℕ) → digit_value c < 10 → begins_point (c ∷ cs) ≡ false
 digit_no_point c cs h = let r : IsAsciiDigit c = digit_from_value c h in grind arith
 
--- two lists with a front have that front and the rest in common
+-- Two lists with a front have that front and the rest in common.
 head_same : (a b : ℕ) (xs ys : List ℕ) → a ∷ xs ≡ b ∷ ys → a ≡ b
 head_same a b xs ys e = cc
 
 tail_same : (a b : ℕ) (xs ys : List ℕ) → a ∷ xs ≡ b ∷ ys → xs ≡ ys
 tail_same a b xs ys e = cc
 
--- ---- signs
+-- ---- signs.
 pub sign_unique : (s t : Sign) (x y : List ℕ) → sign_text s ++ x ≡ sign_text t ++ y → (s ≡ absent → begins_sign x ≡ false) → (t ≡ absent → begins_sign y ≡ false) → (s ≡ t) × (x ≡ y)
 sign_unique absent absent x y e h g = (refl, e)
 sign_unique absent plus x y e h g = absurd (let a = h refl in let b = ap begins_sign e in cc)
@@ -35,7 +35,7 @@ sign_unique minus absent x y e h g = absurd (let a = g refl in let b = ap begins
 sign_unique minus plus x y e h g = absurd (let a = head_same 45 43 x y e in omega arith)
 sign_unique minus minus x y e h g = (refl, tail_same 45 45 x y e)
 
--- ---- runs of digits
+-- ---- runs of digits.
 pub digits_unique : (xs ys x y : List ℕ) → xs ++ x ≡ ys ++ y → AllDigits 10 xs → AllDigits 10 ys → begins_digit x ≡ false → begins_digit y ≡ false → (xs ≡ ys) × (x ≡ y)
 digits_unique [] [] x y e a b h g = (refl, e)
 digits_unique [] (c ∷ ys) x y e a b h g = absurd (let d = is_digit c b.0 in let f = ap begins_digit e in cc)
@@ -46,7 +46,7 @@ digits_unique (c ∷ xs) (d ∷ ys) x y e a b h g =
     let same = rest.0 in
     ((cc), rest.1)
 
--- ---- points
+-- ---- points.
 pub fraction_unique : (f g : Option (List ℕ)) (x y : List ℕ) → fraction_text f ++ x ≡ fraction_text g ++ y → AllDigits 10 (fraction_digits f) → AllDigits 10 (fraction_digits g) → EndsFraction f x → EndsFraction g y → (f ≡ g) × (x ≡ y)
 fraction_unique None None x y e a b h g = (refl, e)
 fraction_unique None (Some ys) x y e a b h g = absurd (let p = h.1 in let f = ap begins_point e in cc)
@@ -56,7 +56,7 @@ fraction_unique (Some xs) (Some ys) x y e a b h g =
     (ap Some rest.0, rest.1)
 
 -- ---- exponents
--- a numeral begins with a digit and no sign
+-- a numeral begins with a digit and no sign.
 numeral_begins : (ds x : List ℕ) → IsNumeral 10 ds → begins_digit (ds ++ x) ≡ true
 numeral_begins [] x h = absurd (let some = h.0 in omega arith)
 numeral_begins (c ∷ cs) x h = is_digit c h.1.0
@@ -112,7 +112,7 @@ exponent_unique (Some p) (Some q) x y e a b h g =
     (ap Some (exponent_same p q letters.0 signs.0 digits.0), digits.1)
 
 -- ---- whole spellings
--- an exponent begins with no digit and no point
+-- an exponent begins with no digit and no point.
 letter_no_digit : (capital : Bool) (x : List ℕ) → begins_digit (letter_text capital ++ x) ≡ false
 letter_no_digit false x = refl
 letter_no_digit true x = refl
@@ -141,14 +141,14 @@ ends_exponent : (e : Option Exponent) (x : List ℕ) → begins_digit x ≡ fals
 ends_exponent None x h g = g refl
 ends_exponent (Some e) x h g = h
 
--- digits with or without a point begin with no sign
+-- Digits with or without a point begin with no sign.
 pub mantissa_no_sign : (whole : List ℕ) (f : Option (List ℕ)) (x : List ℕ) → AllDigits 10 whole → 0 < length whole + length (fraction_digits f) → begins_sign (whole ++ (fraction_text f ++ x)) ≡ false
 mantissa_no_sign (c ∷ cs) f x a some = digit_no_sign c (cs ++ (fraction_text f ++ x)) a.0
 mantissa_no_sign [] (Some ds) x a some = refl
 mantissa_no_sign [] None x a some = absurd (omega arith)
 
--- the text of a spelling and what stands behind it, part by part
-pub parts_of : (s : Spelling) (x : List ℕ) → text_of s ++ x ≡ sign_text s.sign ++ (s.whole ++ (fraction_text s.fraction ++ (exponent_text s.exponent ++ x)))
+-- The text of a spelling and what stands after it, part by part.
+pub parts_of : (s : Spelling) (x : List ℕ) → spelling_text s ++ x ≡ sign_text s.sign ++ (s.whole ++ (fraction_text s.fraction ++ (exponent_text s.exponent ++ x)))
 parts_of s x = simp append_assoc
 
 spelling_same : (s t : Spelling) → s.sign ≡ t.sign → s.whole ≡ t.whole → s.fraction ≡ t.fraction → s.exponent ≡ t.exponent → s ≡ t
@@ -160,7 +160,7 @@ spelling_same s t a b c d =
     let S : Option Exponent → Type 0 = λ x. make s.sign s.whole s.fraction s.exponent ≡ make t.sign t.whole t.fraction x in
     subst S d (subst R c (subst Q b (subst P a refl)))
 
-pub spelling_unique : (s t : Spelling) (x y : List ℕ) → IsSpelling s → IsSpelling t → Ends s x → Ends t y → text_of s ++ x ≡ text_of t ++ y → (s ≡ t) × (x ≡ y)
+pub spelling_unique : (s t : Spelling) (x y : List ℕ) → IsSpelling s → IsSpelling t → EndsNumber s x → EndsNumber t y → spelling_text s ++ x ≡ spelling_text t ++ y → (s ≡ t) × (x ≡ y)
 spelling_unique s t x y a b h g e =
     let sx = exponent_text s.exponent ++ x in
     let ty = exponent_text t.exponent ++ y in

@@ -4,14 +4,14 @@ use Rattle.std.specs.Str.Parse.{IsNumeral, digits_value, digits_value_after}
 use Rattle.std.proofs.lemmas.List.{take_rest, length-take-le}
 use Rattle.fixed_decimal.specs.declared.digits.Digits.{Digits}
 use Rattle.fixed_decimal.specs.declared.decimal.Decimal.{Decimal}
-use Rattle.fixed_decimal.specs.Kept.{Keeps, IsCapped}
-use Rattle.fixed_decimal.specs.Number.{sign_text, Exponent, exponent_text, exponent_up, exponent_down, letter_text, fraction_text, fraction_digits, Spelling, IsSpelling, text_of}
-use Rattle.fixed_decimal.specs.Parts.{begins_digit, begins_point, begins_exponent, EndsExponent, EndsFraction, IsMantissa, TakesMantissa, TakesSign, TakesExponent, IsRun, Splits}
+use Rattle.fixed_decimal.specs.inside.Kept.{Keeps, IsCapped}
+use Rattle.fixed_decimal.specs.Number.{sign_text, Exponent, exponent_text, exponent_up, exponent_down, letter_text, fraction_text, fraction_digits, Spelling, IsSpelling, spelling_text}
+use Rattle.fixed_decimal.specs.inside.Split.{begins_digit, begins_point, begins_exponent, EndsExponent, EndsFraction, IsMantissa, TakesMantissa, TakesSign, TakesExponent, IsRun, Splits}
 use Rattle.fixed_decimal.proofs.Keeping.{capped_add}
 use Rattle.fixed_decimal.proofs.Runs.{value_after_append}
 use Rattle.fixed_decimal.proofs.Spellings.{is_digit, sign_unique, mantissa_no_sign, parts_of}
 
--- what is left of a text behind so many bytes
+-- What is left of a text after so many bytes.
 pub rest_is : (text : List ℕ) (n : ℕ) → take (length text - n) (drop n text) ≡ drop n text
 rest_is text n = take_rest text n
 
@@ -21,17 +21,17 @@ nothing_kept digits = record { most = omega arith; exact = λ _. refl }
 capped_zero : IsCapped 0 0
 capped_zero = record { most = omega arith; exact = λ _. refl }
 
--- ---- mantissas
-pub mantissa_pointed : (text after : List ℕ) (before behind : ℕ) (first digits : Digits) → IsRun text before → take (length text - before) (drop before text) ≡ codes "." ++ after → IsRun after behind
-    → Keeps (digits_value_after 10 0 (take before text)) first → ((n : ℕ) → Keeps n first → Keeps (digits_value_after 10 n (take behind after)) digits) → 0 < before + behind
-    → TakesMantissa text digits behind (take (length after - behind) (drop behind after))
-mantissa_pointed text after before behind first digits one is two start more some = record {
+-- ---- mantissas.
+pub mantissa_pointed : (text after : List ℕ) (before decimals : ℕ) (first digits : Digits) → IsRun text before → take (length text - before) (drop before text) ≡ codes "." ++ after → IsRun after decimals
+    → Keeps (digits_value_after 10 0 (take before text)) first → ((n : ℕ) → Keeps n first → Keeps (digits_value_after 10 n (take decimals after)) digits) → 0 < before + decimals
+    → TakesMantissa text digits decimals (take (length after - decimals) (drop decimals after))
+mantissa_pointed text after before decimals first digits one is two start more some = record {
   whole = take before text;
-  fraction = Some (take behind after);
+  fraction = Some (take decimals after);
   form = record {
     is =
-        let rest = rest_is after behind in
-        let inner : after ≡ take behind after ++ take (length after - behind) (drop behind after) = sym (ap (λ x. take behind after ++ x) rest ∙ take-append-drop behind after) in
+        let rest = rest_is after decimals in
+        let inner : after ≡ take decimals after ++ take (length after - decimals) (drop decimals after) = sym (ap (λ x. take decimals after ++ x) rest ∙ take-append-drop decimals after) in
         let outer : take before text ++ drop before text ≡ text = take-append-drop before text in
         let point : drop before text ≡ codes "." ++ after = sym (rest_is text before) ∙ is in
         sym outer ∙ ap (λ x. take before text ++ x) (point ∙ ap (λ x. codes "." ++ x) inner);
@@ -39,15 +39,15 @@ mantissa_pointed text after before behind first digits one is two start more som
     fraction_form = two.digits;
     some =
         (let a = length-take-le before text one.within in
-        let b = length-take-le behind after two.within in
+        let b = length-take-le decimals after two.within in
         omega arith);
   };
-  ends = (let P : List ℕ → Type 0 = λ x. begins_digit x ≡ false in subst P (sym (rest_is after behind)) two.ends);
-  keeps = (let P : ℕ → Type 0 = λ n. Keeps n digits in subst P (sym (value_after_append 0 (take before text) (take behind after))) (more (digits_value 10 (take before text)) start));
-  behind_is = sym (length-take-le behind after two.within);
+  ends = (let P : List ℕ → Type 0 = λ x. begins_digit x ≡ false in subst P (sym (rest_is after decimals)) two.ends);
+  keeps = (let P : ℕ → Type 0 = λ n. Keeps n digits in subst P (sym (value_after_append 0 (take before text) (take decimals after))) (more (digits_value 10 (take before text)) start));
+  decimals_is = sym (length-take-le decimals after two.within);
 }
 
--- neither digit nor point stands first, or a point and no digit behind it
+-- Neither digit nor point stands first, or a point and no digit after it.
 pub no_mantissa_at_point : (text after whole : List ℕ) (fraction : Option (List ℕ)) (rest : List ℕ) → text ≡ codes "." ++ after → begins_digit after ≡ false → IsMantissa text whole fraction rest → ⊥
 no_mantissa_at_point text after (c ∷ cs) fraction rest is none m =
     let a = ap begins_digit (sym is ∙ m.is) in let b = is_digit c m.whole_form.0 in cc
@@ -58,7 +58,7 @@ no_mantissa_at_point text after [] (Some (d ∷ ds)) rest is none m =
     let tails : after ≡ d ∷ (ds ++ rest) = cc in
     let a = ap begins_digit tails in let b = is_digit d m.fraction_form.0 in cc
 
--- ---- exponents
+-- ---- exponents.
 module _ (text after digits : List ℕ) (capital negative : Bool) (count value : ℕ) (is : text ≡ letter_text capital ++ after) (sign : TakesSign after negative digits) (run : IsRun digits count) (some : 0 < count) (capped : IsCapped (digits_value 10 (take count digits)) value) where
   the_exponent : Exponent
   the_exponent = record { capital = capital; sign = sign.sign; digits = take count digits }
@@ -124,13 +124,13 @@ module _ (text after digits : List ℕ) (capital negative : Bool) (count value :
       })
 
 -- ---- whole numbers
--- a text of which the part behind the sign is no mantissa has no spelling
+-- a text of which the part after the sign is no mantissa has no spelling.
 pub no_spelling : (text unsigned : List ℕ) (negative : Bool) → TakesSign text negative unsigned → ((whole : List ℕ) (fraction : Option (List ℕ)) (rest : List ℕ) → IsMantissa unsigned whole fraction rest → ⊥)
-    → (s : Spelling) (rest : List ℕ) → IsSpelling s → text ≡ text_of s ++ rest → ⊥
+    → (s : Spelling) (rest : List ℕ) → IsSpelling s → text ≡ spelling_text s ++ rest → ⊥
 no_spelling text unsigned negative sign none s rest form is =
-    let behind = exponent_text s.exponent ++ rest in
-    let same = sign_unique sign.sign s.sign unsigned (s.whole ++ (fraction_text s.fraction ++ behind)) (sym sign.is ∙ (is ∙ parts_of s rest)) sign.ends (λ _. mantissa_no_sign s.whole s.fraction behind form.whole form.some) in
-    none s.whole s.fraction behind (record { is = same.1; whole_form = form.whole; fraction_form = form.fraction; some = form.some })
+    let decimals = exponent_text s.exponent ++ rest in
+    let same = sign_unique sign.sign s.sign unsigned (s.whole ++ (fraction_text s.fraction ++ decimals)) (sym sign.is ∙ (is ∙ parts_of s rest)) sign.ends (λ _. mantissa_no_sign s.whole s.fraction decimals form.whole form.some) in
+    none s.whole s.fraction decimals (record { is = same.1; whole_form = form.whole; fraction_form = form.fraction; some = form.some })
 
 ends_digit : (fraction : Option (List ℕ)) (exponent : Option Exponent) (after rest : List ℕ) → EndsFraction fraction after → after ≡ exponent_text exponent ++ rest → EndsExponent exponent rest → begins_digit rest ≡ false
 ends_digit None None after rest h e g = sym (ap begins_digit e) ∙ h.0
@@ -146,9 +146,9 @@ ends_letter : (exponent : Option Exponent) (rest : List ℕ) → EndsExponent ex
 ends_letter None rest h g = h
 ends_letter (Some x) rest h g = absurd (let same : ◌≡◌ {A = Option Exponent} (Some x) None = g in cc)
 
-pub splits : (text unsigned after rest : List ℕ) (negative : Bool) (digits : Digits) (behind up down : ℕ) (decimal : Decimal) → TakesSign text negative unsigned → TakesMantissa unsigned digits behind after → TakesExponent after up down rest
-    → decimal.negative ≡ negative → decimal.digits ≡ digits → decimal.up ≡ up → decimal.down ≡ down + behind → Splits text decimal rest
-splits text unsigned after rest negative digits behind up down decimal sign m x a b e f = record {
+pub splits : (text unsigned after rest : List ℕ) (negative : Bool) (digits : Digits) (decimals up down : ℕ) (decimal : Decimal) → TakesSign text negative unsigned → TakesMantissa unsigned digits decimals after → TakesExponent after up down rest
+    → decimal.negative ≡ negative → decimal.digits ≡ digits → decimal.up ≡ up → decimal.down ≡ down + decimals → Splits text decimal rest
+splits text unsigned after rest negative digits decimals up down decimal sign m x a b e f = record {
   spelling = record { sign = sign.sign; whole = m.whole; fraction = m.fraction; exponent = x.exponent };
   form = record { whole = m.form.whole_form; fraction = m.form.fraction_form; some = m.form.some; exponent = x.form };
   is =
@@ -169,7 +169,7 @@ splits text unsigned after rest negative digits behind up down decimal sign m x 
     down_is =
         (let sum = capped_add (exponent_down x.exponent) down (length (fraction_digits m.fraction)) x.down_is in
         let order : exponent_down x.exponent + length (fraction_digits m.fraction) ≡ length (fraction_digits m.fraction) + exponent_down x.exponent = omega arith in
-        let same : down + length (fraction_digits m.fraction) ≡ decimal.down = sym (f ∙ ap (λ y. down + y) m.behind_is) in
+        let same : down + length (fraction_digits m.fraction) ≡ decimal.down = sym (f ∙ ap (λ y. down + y) m.decimals_is) in
         let P : ℕ → Type 0 = λ y. IsCapped y (down + length (fraction_digits m.fraction)) in
         let Q : ℕ → Type 0 = λ y. IsCapped (length (fraction_digits m.fraction) + exponent_down x.exponent) y in
         subst Q same (subst P order sum));

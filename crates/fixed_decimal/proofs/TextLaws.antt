@@ -10,11 +10,11 @@ use Rattle.std.proofs.lemmas.List.{append-nil, length-append, length-replicate}
 use Rattle.std.proofs.lemmas.List.Elements.{All-nil, All-cons, All-append, All-head, All-tail}
 use Rattle.std.proofs.lemmas.Str.Parse.{digit_from_value}
 use Rattle.std.proofs.Math.Nat.{pow-suc, mul-le-mul_left}
-use Rattle.fixed_decimal.specs.Number.{Sign, absent, plus, minus, sign_text, is_minus, Exponent, exponent_text, letter_text, fraction_text, fraction_digits, Number, Spelling, text_of, number_of, IsDecimal}
+use Rattle.fixed_decimal.specs.Number.{Sign, absent, plus, minus, sign_text, is_minus, Exponent, exponent_text, letter_text, fraction_text, fraction_digits, Number, Spelling, spelling_text, number_of, IsDecimal}
 use Rattle.fixed_decimal.specs.Printed.{minus_text, padded, places_text, printed}
 use Rattle.fixed_decimal.specs.Spice.{IsSpice, scaled, scale_of}
-use Rattle.fixed_decimal.specs.Value.{IsNearest, IsMagnitude, IsRead, IsValue, IsAbove, Vanishes, signed, DecimalReads, SpiceReads, DecimalValue, SpiceValue, IsSpiceNumber, IsAnswer}
-use Rattle.fixed_decimal.specs.Kept.{Answers}
+use Rattle.fixed_decimal.specs.Value.{IsNearest, IsMagnitude, IsWithin, IsValue, IsAbove, Vanishes, signed, DecimalReads, SpiceReads, DecimalValue, SpiceValue, IsSpiceNumber, IsAnswer}
+use Rattle.fixed_decimal.specs.inside.Kept.{AnswersNumber}
 use Rattle.fixed_decimal.specs.declared.error.DecimalError.{DecimalError}
 use Rattle.fixed_decimal.specs.declared.error.DecimalError.TheVariants.{NotNumber, Vanishes as VanishesError, Range}
 use Rattle.fixed_decimal.proofs.Powers.{ten_pos}
@@ -23,10 +23,10 @@ use Rattle.fixed_decimal.proofs.Runs.{value_after_append}
 use Rattle.fixed_decimal.proofs.Settled.{ends_nothing, ends_letters, value_unique, value_back, vanishes_back, range_back}
 use Rattle.fixed_decimal.proofs.Spellings.{spelling_unique}
 
--- ---- one value
+-- ---- one value.
 pub decimal_unique : (text : List ℕ) (m n : Number) → IsDecimal text m → IsDecimal text n → m ≡ n
 decimal_unique text m n a b =
-    let same = spelling_unique a.spelling b.spelling [] [] a.form b.form (ends_nothing a.spelling) (ends_nothing b.spelling) (append-nil (text_of a.spelling) ∙ (sym a.is ∙ (b.is ∙ sym (append-nil (text_of b.spelling))))) in
+    let same = spelling_unique a.spelling b.spelling [] [] a.form b.form (ends_nothing a.spelling) (ends_nothing b.spelling) (append-nil (spelling_text a.spelling) ∙ (sym a.is ∙ (b.is ∙ sym (append-nil (spelling_text b.spelling))))) in
     a.value ∙ (ap number_of same.0 ∙ sym b.value)
 
 pub spice_unique : (text : List ℕ) (m n : Number) → IsSpice text m → IsSpice text n → m ≡ n
@@ -51,9 +51,9 @@ pub spice_reads_once : (places limit : ℕ) (text : List ℕ) (v w : ℤ) → Sp
 spice_reads_once places limit text v w a b = spice_value_once places text v w (a.0, a.1, a.2.value) (b.0, b.1, b.2.value)
 
 -- ---- one answer
--- an answer to a text that stands for a number is the answer to that number
-of_number : (form : List ℕ → Number → Type 0) (places limit : ℕ) (text : List ℕ) (n : Number) → form text n → ((m : Number) → form text m → m ≡ n) → (r : Result ℤ DecimalError) → IsAnswer form places limit text r → Answers n places limit r
-of_number form places limit text n is only (Ok v) a = subst (λ m. IsRead m places limit v) (only a.0 a.1) a.2
+-- an answer to a text that stands for a number is the answer to that number.
+of_number : (form : List ℕ → Number → Type 0) (places limit : ℕ) (text : List ℕ) (n : Number) → form text n → ((m : Number) → form text m → m ≡ n) → (r : Result ℤ DecimalError) → IsAnswer form places limit text r → AnswersNumber n places limit r
+of_number form places limit text n is only (Ok v) a = subst (λ m. IsWithin m places limit v) (only a.0 a.1) a.2
 of_number form places limit text n is only (Err NotNumber) a = absurd (a n is)
 of_number form places limit text n is only (Err VanishesError) a = subst (λ m. Vanishes m places) (only a.0 a.1) a.2
 of_number form places limit text n is only (Err Range) a = subst (λ m. IsAbove m places limit) (only a.0 a.1) a.2
@@ -68,7 +68,7 @@ module _ (form : List ℕ → Number → Type 0) (places limit : ℕ) (text : Li
   answer_once (Err NotNumber) (Err VanishesError) a b = absurd (a b.0 b.1)
   answer_once (Err NotNumber) (Err Range) a b = absurd (a b.0 b.1)
 
--- ---- no white
+-- ---- no white.
 abbrev IsVisible : ℕ → Type 0
 IsVisible c = 32 < c
 
@@ -105,13 +105,13 @@ pub spice_visible : (text : List ℕ) → IsSpiceNumber text → All (λ c. 32 <
 spice_visible text number =
     let a = number.1 in
     let s = a.spelling in
-    let behind = All-append IsVisible (fraction_text s.fraction) (exponent_text s.exponent) (fraction_visible s.fraction a.form.fraction) (exponent_visible s.exponent a.form.exponent) in
-    let number = All-append IsVisible (sign_text s.sign) (s.whole ++ (fraction_text s.fraction ++ exponent_text s.exponent)) (sign_visible s.sign) (All-append IsVisible s.whole (fraction_text s.fraction ++ exponent_text s.exponent) (digits_visible s.whole a.form.whole) behind) in
-    let whole = All-append IsVisible (text_of s) a.letters number (letters_visible a.letters a.scale.only_letters) in
+    let after = All-append IsVisible (fraction_text s.fraction) (exponent_text s.exponent) (fraction_visible s.fraction a.form.fraction) (exponent_visible s.exponent a.form.exponent) in
+    let number = All-append IsVisible (sign_text s.sign) (s.whole ++ (fraction_text s.fraction ++ exponent_text s.exponent)) (sign_visible s.sign) (All-append IsVisible s.whole (fraction_text s.fraction ++ exponent_text s.exponent) (digits_visible s.whole a.form.whole) after) in
+    let whole = All-append IsVisible (spelling_text s) a.letters number (letters_visible a.letters a.scale.only_letters) in
     let P : List ℕ → Type 0 = λ t. All IsVisible t in
     subst P (sym a.is) whole
 
--- ---- printed texts read back
+-- ---- printed texts read back.
 digits_append : (xs ys : List ℕ) → AllDigits 10 xs → AllDigits 10 ys → AllDigits 10 (xs ++ ys)
 digits_append [] ys a b = b
 digits_append (x ∷ xs) ys a b = (a.0, digits_append xs ys a.1 b)
@@ -124,7 +124,7 @@ zeros_value : (k : ℕ) (ds : List ℕ) → digits_value 10 (replicate k 48 ++ d
 zeros_value zero ds = refl
 zeros_value (suc k) ds = zeros_value k ds
 
--- a number in front of digits counts by one power of ten for each
+-- A number in front of digits counts by one power of ten for each.
 value_after_is : (n : ℕ) (ds : List ℕ) → digits_value_after 10 n ds ≡ n * 10 ^ length ds + digits_value 10 ds
 value_after_is n [] = omega arith
 value_after_is n (c ∷ cs) =
@@ -135,7 +135,7 @@ value_after_is n (c ∷ cs) =
     let start : digits_value_after 10 (0 * 10 + digit_value c) cs ≡ digits_value_after 10 (digit_value c) cs = ap (λ x. digits_value_after 10 x cs) (omega arith) in
     omega arith
 
--- a number below 10^places, written with that many digits
+-- A number below 10^places, written with that many digits.
 module _ (places n : ℕ) (some : 0 < places) (below : n < 10 ^ places) (wide : n < 10 ^ 64) where
   padded_digits : AllDigits 10 (padded places n)
   padded_digits = digits_append (replicate (places - length (decimal n)) 48) (decimal n) (zeros_digits (places - length (decimal n))) (decimal_is_IsNumeral_wide n wide).0.1
@@ -203,7 +203,7 @@ module _ (n : ℕ) (wide : n < 10 ^ 64) where
   fraction_value zero = let e = rest_below zero in omega arith
   fraction_value (suc p) = padded_value (suc p) (n % 10 ^ suc p) (omega arith) (rest_below (suc p)) (rest_wide (suc p))
 
-  -- all digits together write the number
+  -- All digits together write the number.
   digits_are : (p : ℕ) → digits_value 10 (decimal (n / 10 ^ p) ++ fraction_digits (fraction_of n p)) ≡ n
   digits_are p =
       let fraction = fraction_digits (fraction_of n p) in
@@ -227,7 +227,7 @@ reads_back v p limit few small within =
     let s = spelling_of v p in
     let length_is = fraction_length n wide p in
     let digits = digits_are n wide p in
-    let text : printed v p ≡ text_of s = ap (λ x. x ++ (decimal (n / 10 ^ p) ++ places_text n p)) (sign_is v) ∙ ap (λ x. sign_text (sign_of v) ++ (decimal (n / 10 ^ p) ++ x)) (places_is n wide p ∙ sym (append-nil (fraction_text (fraction_of n p)))) in
+    let text : printed v p ≡ spelling_text s = ap (λ x. x ++ (decimal (n / 10 ^ p) ++ places_text n p)) (sign_is v) ∙ ap (λ x. sign_text (sign_of v) ++ (decimal (n / 10 ^ p) ++ x)) (places_is n wide p ∙ sym (append-nil (fraction_text (fraction_of n p)))) in
     let numerator : (number_of s).numerator * 10 ^ p ≡ n * 10 ^ p = (let one : (number_of s).numerator ≡ n = omega arith in ap (λ x. x * 10 ^ p) one) in
     let denominator : 10 ^ p ≡ (number_of s).denominator = ap (λ x. 10 ^ x) (let e = length_is in omega arith) in
     let P : ℕ → Type 0 = λ x. IsNearest x (10 ^ p) n in

@@ -1,6 +1,6 @@
-pub mod Kept
 pub mod Number
-pub mod Parts
-pub mod Printed
 pub mod Spice
+pub mod Integer
 pub mod Value
+pub mod Printed
+pub mod inside

@@ -3,7 +3,7 @@ use Rattle.std.specs.Prelude.{◌≡◌, ℕ, ◌+◌, ◌*◌, ◌^◌, ◌<◌
 use Rattle.std.specs.declared.option.Option.TheVariants.{Some, None}
 use Rattle.std.specs.Str.Parse.{AllDigits, IsNumeral, digits_value}
 
--- a sign, or none
+-- A sign, or none.
 pub data Sign : Type 0 where
   absent : Sign
   plus : Sign
@@ -19,20 +19,21 @@ is_minus absent = false
 is_minus plus = false
 is_minus minus = true
 
--- an exponent: `e`, or `E` where it is a capital, a sign or none, and digits
+-- An exponent: `e`, or `E` where it is a capital, a sign or none, and digits.
 pub record Exponent : Type 0 where
   pub capital : Bool
   pub sign : Sign
   pub digits : List ℕ
 
--- how a number is spelled: in `-12.5e+3` the sign is a minus, 12 stands before the point, 5 behind it, and the exponent is `e+3`
+-- How a number is spelled: in `-12.5e+3` the sign is a minus, 12 stands before the point, 5 after it, and the exponent
+-- is `e+3`.
 pub record Spelling : Type 0 where
   pub sign : Sign
   pub whole : List ℕ
   pub fraction : Option (List ℕ)
   pub exponent : Option Exponent
 
--- a point and the digits behind it, or nothing
+-- A point and the digits after it, or nothing.
 abbrev pub fraction_text : Option (List ℕ) → List ℕ
 fraction_text None = []
 fraction_text (Some digits) = codes "." ++ digits
@@ -49,24 +50,24 @@ abbrev pub exponent_text : Option Exponent → List ℕ
 exponent_text None = []
 exponent_text (Some e) = letter_text e.capital ++ (sign_text e.sign ++ e.digits)
 
--- the text of a spelling
-abbrev pub text_of : Spelling → List ℕ
-text_of s = sign_text s.sign ++ (s.whole ++ (fraction_text s.fraction ++ exponent_text s.exponent))
+-- The text of a spelling.
+abbrev pub spelling_text : Spelling → List ℕ
+spelling_text s = sign_text s.sign ++ (s.whole ++ (fraction_text s.fraction ++ exponent_text s.exponent))
 
--- the form of a number: digits with at most one point and at least one digit; an exponent has at least one digit
+-- The form of a number: digits with at most one point and at least one digit; an exponent has at least one digit.
 pub record IsSpelling (s : Spelling) : Type 0 where
   pub whole : AllDigits 10 s.whole
   pub fraction : AllDigits 10 (fraction_digits s.fraction)
   pub some : 0 < length s.whole + length (fraction_digits s.fraction)
   pub exponent : IfSome s.exponent (λ e. IsNumeral 10 e.digits)
 
--- a number: a sign and a fraction of two whole numbers
+-- A number: a sign and a fraction of two whole numbers.
 pub record Number : Type 0 where
   pub negative : Bool
   pub numerator : ℕ
   pub denominator : ℕ
 
--- the power of ten by which an exponent multiplies, and that by which it divides
+-- The power of ten by which an exponent multiplies, and that by which it divides.
 abbrev pub exponent_up : Option Exponent → ℕ
 exponent_up None = 0
 exponent_up (Some e) = if is_minus e.sign then 0 else digits_value 10 e.digits
@@ -75,16 +76,17 @@ abbrev pub exponent_down : Option Exponent → ℕ
 exponent_down None = 0
 exponent_down (Some e) = if is_minus e.sign then digits_value 10 e.digits else 0
 
--- the number is below 0: it has a minus and is not 0
+-- The number is below 0: it has a minus and is not 0.
 abbrev pub IsNegative : Number → Type 0
 IsNegative number = (number.negative ≡ true) × (0 < number.numerator)
 
--- the text begins with a minus
+-- The text begins with a minus.
 abbrev pub begins_minus : List ℕ → Bool
 begins_minus [] = false
 begins_minus (c ∷ cs) = c == 45
 
--- the number that a spelling stands for: all its digits, over one power of ten for each digit behind the point, times the power of its exponent
+-- The number that a spelling stands for: all its digits, over one power of ten for each digit after the point, times
+-- the power of its exponent.
 abbrev pub number_of : Spelling → Number
 number_of s = record {
   negative = is_minus s.sign;
@@ -92,9 +94,9 @@ number_of s = record {
   denominator = 10 ^ (length (fraction_digits s.fraction) + exponent_down s.exponent);
 }
 
--- the text is a number without a scale
+-- The text is a number without a scale.
 pub record IsDecimal (text : List ℕ) (number : Number) : Type 0 where
   pub spelling : Spelling
   pub form : IsSpelling spelling
-  pub is : text ≡ text_of spelling
+  pub is : text ≡ spelling_text spelling
   pub value : number ≡ number_of spelling

@@ -3,20 +3,20 @@ use Rattle.std.specs.Prelude.{◌≡◌, ℕ, ◌*◌, ◌^◌, Bool, false, Lis
 use Rattle.std.specs.Char.{IsAsciiAlphabetic}
 use Rattle.std.specs.Str.{str_eq_ignore_ascii_case}
 use Rattle.fixed_decimal.specs.declared.scale.Scale.{Scale}
-use Rattle.fixed_decimal.specs.Number.{Spelling, IsSpelling, text_of, Number, number_of}
+use Rattle.fixed_decimal.specs.Number.{Spelling, IsSpelling, spelling_text, Number, number_of}
 
--- the letters begin with this prefix, in either case
+-- The letters begin with this prefix, in either case.
 abbrev pub begins_with : List ℕ → List ℕ → Bool
 begins_with prefix letters = str_eq_ignore_ascii_case (take (length prefix) letters) prefix
 
--- the scale 10^power, and the scale 10^-power
+-- The scale 10^power, and the scale 10^-power.
 abbrev pub times : ℕ → Scale
 times power = record { up = power; down = 0 }
 
 abbrev pub over : ℕ → Scale
 over power = record { up = 0; down = power }
 
--- the first scale that fits the letters behind a number; other letters mean 1, and letters behind the scale say nothing
+-- The first scale that fits the letters after a number; other letters mean 1, and letters after the scale say nothing.
 abbrev pub scale_of : List ℕ → Scale
 scale_of letters =
     if begins_with (codes "meg") letters then times 6 else
@@ -29,23 +29,24 @@ scale_of letters =
     if begins_with (codes "p") letters then over 12 else
     if begins_with (codes "f") letters then over 15 else times 0
 
--- the number times its scale
+-- The number times its scale.
 abbrev pub scaled : Number → Scale → Number
 scaled number scale = record number {
   numerator = number.numerator * 10 ^ scale.up;
   denominator = number.denominator * 10 ^ scale.down;
 }
 
--- what may stand behind a number: letters only, which do not begin with MIL
+-- What may stand after a number: letters only, which do not begin with MIL.
 pub record IsScaleText (letters : List ℕ) : Type 0 where
   pub only_letters : All IsAsciiAlphabetic letters
   pub no_mil : begins_with (codes "mil") letters ≡ false
 
--- the text is a number and letters only, which do not begin with MIL. The number is the longest one at the front of the text, since a number never ends with a letter.
+-- The text is a number and letters only, which do not begin with MIL. The number is the longest one at the front of the
+-- text, since a number never ends with a letter.
 pub record IsSpice (text : List ℕ) (number : Number) : Type 0 where
   pub spelling : Spelling
   pub letters : List ℕ
   pub form : IsSpelling spelling
   pub scale : IsScaleText letters
-  pub is : text ≡ text_of spelling ++ letters
+  pub is : text ≡ spelling_text spelling ++ letters
   pub value : number ≡ scaled (number_of spelling) (scale_of letters)

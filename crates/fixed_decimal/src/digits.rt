@@ -2,14 +2,14 @@
 
 ghost use Rattle.std.specs.Prelude.{◌≡◌, ℕ, ◌+◌, ◌-◌, ◌*◌, ◌^◌, ◌<◌, ◌≤◌, length, take};
 ghost use Rattle.std.specs.Str.Parse.{digits_value, digits_value_after};
-ghost use Rattle.fixed_decimal.specs.Kept.{Keeps, IsCapped};
-ghost use Rattle.fixed_decimal.specs.Parts.{IsRun};
+ghost use Rattle.fixed_decimal.specs.inside.Kept.{Keeps, IsCapped};
+ghost use Rattle.fixed_decimal.specs.inside.Split.{IsRun};
 
 /// The number that decimal digits write, of which the first 38 or 39 from the first other than 0 are kept.
 #[derive(Clone, Copy)]
 pub struct Digits {
     pub kept: u128,
-    /// How many digits stand behind those that are kept.
+    /// How many digits stand after those that are kept.
     pub dropped: u64,
 }
 
@@ -49,7 +49,7 @@ impl Digits {
     }
 }
 
-/// The digits of `before` and behind them those that `text` begins with, and how many these are.
+/// The digits of `before` and after them those that `text` begins with, and how many these are.
 pub fn take_digits(before: Digits, text: &[u8]) -> (Digits, usize)
     requires { before.dropped + length text.now < 2 ^ 64 }
 
@@ -70,7 +70,8 @@ pub fn take_digits(before: Digits, text: &[u8]) -> (Digits, usize)
 /// An exponent is counted up to this or a little more. It is far above the length of any text.
 const EXPONENT_LIMIT: u128 = 1_000_000_000_000_000_000_000;
 
-/// The number that the digits write with which `text` begins, and how many these are. A number above `EXPONENT_LIMIT` may come out as a smaller one above it.
+/// The number that the digits write with which `text` begins, and how many these are. A number above `EXPONENT_LIMIT`
+/// may come out as a smaller one above it.
 pub fn take_exponent_digits(text: &[u8]) -> (u128, usize)
     ensures run { IsRun text.now result.1 }
     ensures value { IsCapped (digits_value 10 (take result.1 text.now)) result.0 }

@@ -1,12 +1,21 @@
 //! Values printed as text.
 
 ghost use Rattle.std.specs.Prelude.{◌≡◌, ℕ, ◌+◌, ◌-◌, ◌^◌, ◌<◌, ◌≤◌, ◌<ℤ◌, ℤ, pos, take, ◌++◌, decimal, OnOk, OnErr, vec_len, replicate};
+ghost use Rattle.fixed_decimal.specs.inside.Rounded.{IsRounded};
 ghost use Rattle.fixed_decimal.specs.Printed.{minus_text, padded, places_text, printed, IsRoundedDown, IsRoundedUp};
 
 use itoa::Buffer;
 use std::alloc::AllocError;
 
-/// Appends the text of `value` units of 10^-places: a `-` where it is negative, the whole part, and where there are places a point and exactly that many digits.
+/// Whether a value is rounded down or up.
+#[derive(Clone, Copy)]
+enum Direction {
+    Down,
+    Up,
+}
+
+/// Appends the text of `value` units of 10^-places: a `-` where it is negative, the whole part, and where there are
+/// places a point and exactly that many digits.
 ///
 /// Error: want of memory, where `out` stays as it was.
 pub fn print(out: &mut Vec<u8>, value: i128, places: u32) -> Result<(), AllocError>
@@ -30,10 +39,11 @@ pub fn print_down(out: &mut Vec<u8>, value: i128, places: u32, shown: u32) -> Re
     requires shown { shown ≤ places }
     requires places { places ≤ 30 }
 
-    ensures ok { OnOk result ((q : ℤ) × IsRoundedDown value (10 ^ (places - shown)) q × (out.new.items ≡ out.old.items ++ printed q shown)) }
+    ensures ok { OnOk result ((q : ℤ) × IsRoundedDown value (10 ^ (places - shown)) q
+        × (out.new.items ≡ out.old.items ++ printed q shown)) }
     ensures err { OnErr result (out.new.items ≡ out.old.items) }
 {
-    print(out, rounded_down(value, 10i128.pow(places - shown)), shown)
+    print_rounded(out, value, places, shown, Direction::Down)
 }
 
 /// Appends the text of the least number of `shown` places that is not below `value` units of 10^-places.
@@ -43,10 +53,43 @@ pub fn print_up(out: &mut Vec<u8>, value: i128, places: u32, shown: u32) -> Resu
     requires shown { shown ≤ places }
     requires places { places ≤ 30 }
 
-    ensures ok { OnOk result ((q : ℤ) × IsRoundedUp value (10 ^ (places - shown)) q × (out.new.items ≡ out.old.items ++ printed q shown)) }
+    ensures ok { OnOk result ((q : ℤ) × IsRoundedUp value (10 ^ (places - shown)) q
+        × (out.new.items ≡ out.old.items ++ printed q shown)) }
     ensures err { OnErr result (out.new.items ≡ out.old.items) }
 {
-    print(out, rounded_up(value, 10i128.pow(places - shown)), shown)
+    print_rounded(out, value, places, shown, Direction::Up)
+}
+
+/// Appends the text of the value rounded in this direction to `shown` places.
+fn print_rounded(
+    out: &mut Vec<u8>,
+    value: i128,
+    places: u32,
+    shown: u32,
+    direction: Direction,
+) -> Result<(), AllocError>
+    requires shown { shown ≤ places }
+    requires places { places ≤ 30 }
+    ensures ok { OnOk result ((q : ℤ) × IsRounded direction value (10 ^ (places - shown)) q
+        × (out.new.items ≡ out.old.items ++ printed q shown)) }
+    ensures err { OnErr result (out.new.items ≡ out.old.items) }
+{
+    print(
+        out,
+        rounded(value, 10i128.pow(places - shown), direction),
+        shown,
+    )
+}
+
+/// The value rounded in this direction to a whole number of units.
+fn rounded(value: i128, unit: i128, direction: Direction) -> i128
+    requires { pos 0 <ℤ unit }
+    ensures { (u : ℕ) → unit ≡ pos u → IsRounded direction value u result }
+{
+    match direction {
+        Direction::Down => rounded_down(value, unit),
+        Direction::Up => rounded_up(value, unit),
+    }
 }
 
 /// The greatest whole number of units that is not above the value.

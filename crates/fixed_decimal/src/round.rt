@@ -1,7 +1,7 @@
 //! Rounding of a number to a whole number of units.
 
 ghost use Rattle.std.specs.Prelude.{◌≡◌, ℕ, ◌+◌, ◌*◌, ◌^◌, ◌<◌, ◌≤◌, min, IfSome, IfNone, ◌⊎◌};
-ghost use Rattle.fixed_decimal.specs.Kept.{Keeps, IsCapped, Describes, Answers};
+ghost use Rattle.fixed_decimal.specs.inside.Kept.{Keeps, IsCapped, Describes, AnswersNumber};
 ghost use Rattle.fixed_decimal.specs.Number.{Number};
 ghost use Rattle.fixed_decimal.specs.Spice.{scaled};
 ghost use Rattle.fixed_decimal.specs.Value.{IsNearest, signed};
@@ -11,10 +11,12 @@ use crate::digits::Digits;
 use crate::error::DecimalError;
 use crate::scale::Scale;
 
-/// The digits that are kept times 10^power. None where more digits stand behind them, or where this is above 10^37.
+/// The digits that are kept times 10^power. None where more digits stand after them, or where this is above 10^37.
 fn raised(digits: Digits, power: u128) -> Option<u128>
-    ensures some { IfSome result (λ m. (digits.kept ≡ 0) × (m ≡ 0) ⊎ (digits.dropped ≡ 0) × (power ≤ 37) × (m ≡ digits.kept * 10 ^ power)) }
-    ensures none { IfNone result ((0 < digits.kept) × ((0 < digits.dropped) ⊎ (37 < power) ⊎ (2 ^ 128 ≤ digits.kept * 10 ^ power))) }
+    ensures some { IfSome result (λ m. (digits.kept ≡ 0) × (m ≡ 0) ⊎ (digits.dropped ≡ 0) × (power ≤ 37)
+        × (m ≡ digits.kept * 10 ^ power)) }
+    ensures none { IfNone result ((0 < digits.kept)
+        × ((0 < digits.dropped) ⊎ (37 < power) ⊎ (2 ^ 128 ≤ digits.kept * 10 ^ power))) }
 {
     if digits.kept == 0 {
         return Some(0);
@@ -38,15 +40,18 @@ fn lowered(kept: u128, power: u128) -> u128
     (kept + unit / 2) / unit
 }
 
-/// The whole number nearest to the digits times 10^up over 10^down, and the greater of two equally near ones. None where it is above 10^37.
+/// The whole number nearest to the digits times 10^up over 10^down, and the greater of two equally near ones. None
+/// where it is above 10^37.
 fn nearest(digits: Digits, up: u128, down: u128) -> Option<u128>
     requires kept { digits.kept < 10 ^ 38 + 10 }
     requires up { up < 10 ^ 24 }
     requires down { down < 10 ^ 24 }
     requires one { min up down < 2 ^ 65 }
 
-    ensures some { IfSome result (λ m. (n u d : ℕ) → Keeps n digits → IsCapped u up → IsCapped d down → IsNearest (n * 10 ^ u) (10 ^ d) m) }
-    ensures none { IfNone result ((n u d : ℕ) → Keeps n digits → IsCapped u up → IsCapped d down → (10 ^ 37 + 1) * 10 ^ d ≤ n * 10 ^ u) }
+    ensures some { IfSome result (λ m. (n u d : ℕ) → Keeps n digits → IsCapped u up → IsCapped d down →
+        IsNearest (n * 10 ^ u) (10 ^ d) m) }
+    ensures none { IfNone result ((n u d : ℕ) → Keeps n digits → IsCapped u up → IsCapped d down →
+        (10 ^ 37 + 1) * 10 ^ d ≤ n * 10 ^ u) }
 {
     let up = up + u128::from(digits.dropped);
     if down <= up {
@@ -78,7 +83,8 @@ pub fn rounded(
     requires places { places ≤ 30 }
     requires limit { limit ≤ 10 ^ 37 }
 
-    ensures { (n : Number) → n.negative ≡ number.negative → Describes n number.digits number.up number.down → Answers (scaled n scale) places limit result }
+    ensures { (n : Number) → n.negative ≡ number.negative → Describes n number.digits number.up number.down →
+        AnswersNumber (scaled n scale) places limit result }
 {
     let up = number.up + u128::from(scale.up) + u128::from(places);
     let down = number.down + u128::from(scale.down);

@@ -1,4 +1,4 @@
-//! The scale behind a number.
+//! The scale after a number.
 
 ghost use Rattle.std.specs.Prelude.{◌≡◌, ℕ, ◌≤◌, false, List, ◌∷◌, codes, All, IsTrue, ◌↔◌, IfSome, IfNone};
 ghost use Rattle.std.specs.Char.{IsAsciiAlphabetic};
@@ -12,7 +12,7 @@ pub struct Scale {
 }
 
 impl Scale {
-    /// The scale of a number with no letters behind it.
+    /// The scale of a number with no letters after it.
     pub const ONE: Scale = Scale { up: 0, down: 0 };
 
     const fn times(power: u32) -> Scale
@@ -41,7 +41,7 @@ fn are_letters(text: &[u8]) -> bool
     text.iter().all(|byte| byte.is_ascii_alphabetic())
 }
 
-/// The scale that letters behind a number mean. None where the text is not letters only, or begins with MIL.
+/// The scale that letters after a number mean. None where the text is not letters only, or begins with MIL.
 pub fn scale_of(letters: &[u8]) -> Option<Scale>
     ensures text { IfSome result (λ scale. IsScaleText letters.now) }
     ensures value { IfSome result (λ scale. scale ≡ the_scale letters.now) }
@@ -63,7 +63,8 @@ pub fn scale_of(letters: &[u8]) -> Option<Scale>
 
 /// The scale of letters that begin with this one, and not with MEG.
 fn letter_scale(letter: u8) -> Scale
-    ensures value { (letters : List ℕ) → begins_with (codes "meg") (letter ∷ letters) ≡ false → result ≡ the_scale (letter ∷ letters) }
+    ensures value { (letters : List ℕ) → begins_with (codes "meg") (letter ∷ letters) ≡ false →
+        result ≡ the_scale (letter ∷ letters) }
     ensures up { result.up ≤ 12 }
     ensures down { result.down ≤ 15 }
 {

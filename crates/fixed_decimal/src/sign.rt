@@ -2,16 +2,22 @@
 
 ghost use Rattle.std.specs.Prelude.{◌≡◌, ℕ, ◌↔◌, ◌&&◌, IfOk, IsTrue, pos, int_lt};
 ghost use Rattle.fixed_decimal.specs.Number.{begins_minus, IsDecimal, IsNegative};
+ghost use Rattle.fixed_decimal.specs.Integer.{IsInteger};
 ghost use Rattle.fixed_decimal.specs.Spice.{IsSpice};
-ghost use Rattle.fixed_decimal.specs.Value.{is_number, Stands, IsAnswer};
+ghost use Rattle.fixed_decimal.specs.Value.{stands_for_number, StandsFor, IsAnswer};
 
 use crate::error::DecimalError;
 
-/// Whether a text stands for a number below 0, also for one that vanishes or that is out of range. `answer` is what `read` or
-/// `read_spice` has answered to the text, at any number of places and any limit. `-0` is not below 0, and what is no number neither.
+/// Whether a text stands for a number below 0, also for one that vanishes or that is out of range. `answer` is what
+/// `read`, `read_spice` or `read_integer` has answered to the text, at any number of places and any limit. `-0` is not
+/// below 0, and what is no number neither.
 pub fn is_negative(text: &[u8], answer: Result<i128, DecimalError>) -> bool
-    ensures decimal { (places limit : ℕ) → IsAnswer IsDecimal places limit text.now answer → IsTrue result ↔ Stands IsDecimal text.now IsNegative }
-    ensures spice { (places limit : ℕ) → IsAnswer IsSpice places limit text.now answer → IsTrue result ↔ Stands IsSpice text.now IsNegative }
+    ensures decimal { (places limit : ℕ) → IsAnswer IsDecimal places limit text.now answer →
+        IsTrue result ↔ StandsFor IsDecimal text.now IsNegative }
+    ensures integer { (places limit : ℕ) → IsAnswer IsInteger places limit text.now answer →
+        IsTrue result ↔ StandsFor IsInteger text.now IsNegative }
+    ensures spice { (places limit : ℕ) → IsAnswer IsSpice places limit text.now answer →
+        IsTrue result ↔ StandsFor IsSpice text.now IsNegative }
 {
     match answer {
         Ok(_) => is_below_zero(answer),
@@ -31,14 +37,14 @@ fn is_below_zero(answer: Result<i128, DecimalError>) -> bool
 
 /// Whether a text that has no value for this reason is a number with a minus.
 fn is_refused_negative(text: &[u8], error: DecimalError) -> bool
-    ensures { result ≡ (is_number error && begins_minus text.now) }
+    ensures { result ≡ (stands_for_number error && begins_minus text.now) }
 {
-    is_number(error) && begins_minus(text)
+    stands_for_number(error) && begins_minus(text)
 }
 
 /// Whether a text that has no value for this reason is a number.
-fn is_number(error: DecimalError) -> bool
-    ensures { result ≡ is_number error }
+fn stands_for_number(error: DecimalError) -> bool
+    ensures { result ≡ stands_for_number error }
 {
     match error {
         DecimalError::NotNumber => false,

@@ -446,7 +446,7 @@ fn printed_values(rt: HostRuntime) -> Result<(), Fail> {
 }
 
 /// `0.`, so many zeros, a 1 and the exponent.
-fn behind_zeros(alloc: Global, zeros: usize, exponent: &[u8]) -> Result<Vec<u8>, AllocError> {
+fn after_zeros(alloc: Global, zeros: usize, exponent: &[u8]) -> Result<Vec<u8>, AllocError> {
     let mut text = Vec::from_slice(alloc, b"0.")?;
     text.resize(zeros, b'0')?;
     text.extend_from_slice(exponent)?;
@@ -458,23 +458,23 @@ fn long_texts(rt: HostRuntime) -> Result<(), Fail> {
     let alloc = rt.alloc();
     let limit = 1_000_000;
     assert_eq!(rt;
-        read(&behind_zeros(alloc, 1002, b"1e1003")?, 3, limit),
+        read(&after_zeros(alloc, 1002, b"1e1003")?, 3, limit),
         Ok(100_000)
     );
     assert_eq!(rt;
-        read(&behind_zeros(alloc, 1002, b"15e998")?, 3, limit),
+        read(&after_zeros(alloc, 1002, b"15e998")?, 3, limit),
         Ok(2)
     );
     assert_eq!(rt;
-        read(&behind_zeros(alloc, 1002, b"14e998")?, 3, limit),
+        read(&after_zeros(alloc, 1002, b"14e998")?, 3, limit),
         Ok(1)
     );
     assert_eq!(rt;
-        read_spice(&behind_zeros(alloc, 1002, b"1e995k")?, 3, limit),
+        read_spice(&after_zeros(alloc, 1002, b"1e995k")?, 3, limit),
         Ok(1)
     );
     assert_eq!(rt;
-        read(&behind_zeros(alloc, 1_000_000, b"1e999999")?, 3, limit),
+        read(&after_zeros(alloc, 1_000_000, b"1e999999")?, 3, limit),
         Ok(1000)
     );
     assert_eq!(rt;
@@ -500,4 +500,30 @@ fn numbers_below_zero(rt: HostRuntime) {
     assert!(rt; !below_zero(b"-x"));
     assert!(rt; !below_zero(b"1e99"));
     assert!(rt; !below_zero(b""));
+}
+
+// Whole numbers with the limit 1000, and what they are read as.
+const INTEGERS: [(&[u8], Result<i128, DecimalError>); 14] = [
+    (b"0", Ok(0)),
+    (b"-0", Ok(0)),
+    (b"007", Ok(7)),
+    (b"1000", Ok(1000)),
+    (b"-1000", Ok(-1000)),
+    (b"1001", Err(DecimalError::Range)),
+    (b"-1001", Err(DecimalError::Range)),
+    (b"", Err(DecimalError::NotNumber)),
+    (b"-", Err(DecimalError::NotNumber)),
+    (b"+5", Err(DecimalError::NotNumber)),
+    (b"--5", Err(DecimalError::NotNumber)),
+    (b"1.0", Err(DecimalError::NotNumber)),
+    (b"1e3", Err(DecimalError::NotNumber)),
+    (b"5k", Err(DecimalError::NotNumber)),
+];
+
+#[test]
+fn whole_numbers(rt: HostRuntime) {
+    for (text, want) in INTEGERS {
+        let answer = read_integer(text, 1000);
+        assert_eq!(rt; answer, want, "at {text:?}");
+    }
 }

@@ -1,12 +1,13 @@
 use Rattle.std.proofs.Common.{◌≡◌, sym}
-use Rattle.fixed_decimal.specs.Kept.{Answers}
+use Rattle.fixed_decimal.specs.inside.Kept.{AnswersNumber}
 use Rattle.fixed_decimal.specs.Number.{Number, number_of}
 use Rattle.fixed_decimal.specs.Spice.{IsSpice, scaled}
 use Rattle.fixed_decimal.proofs.Settled.{settled_value, settled_not_number, settled_vanishes, settled_range, settled_answer, no_value, no_vanishing, no_range, not_a_number, no_spice, the_spice, only_spice}
+use Rattle.fixed_decimal.proofs.TextLaws.{answer_once, spice_unique}
 use Rattle.fixed_decimal.proofs.reader.read_spice.Goals as goal
 use Rattle.fixed_decimal.proofs.reader.read_spice.Goals.{In_default-scale_of, After-rounded}
 
--- ---- a number and no scale behind it
+-- ---- a number and no scale after it.
 no_scale : (c : In_default-scale_of) (n : Number) → IsSpice c.args.text.now n → ⊥
 no_scale c = no_spice c.args.text.now c.in-Some.number c.in-Some.letters.now c.in-Some.ensures.some c.in_default-scale_of.ensures.none
 
@@ -23,7 +24,7 @@ returns-in_default-scale_of-clause-vanishes c = no_vanishing IsSpice c.args.text
 pub returns-in_default-scale_of-clause-range : goal.returns-in_default-scale_of-clause-range
 returns-in_default-scale_of-clause-range c = no_range IsSpice c.args.text.now (no_scale c) c.args.places c.args.limit
 
--- ---- a number and its scale
+-- ---- a number and its scale.
 module _ (c : After-rounded) where
   the_number : Number
   the_number = scaled (number_of c.in-Some.ensures.some.spelling) c.in-Some-scale_of.scale
@@ -36,7 +37,7 @@ module _ (c : After-rounded) where
   unfolding the_number
   only = only_spice c.args.text.now c.in-Some.number c.in-Some.letters.now c.in-Some.ensures.some c.in-Some-scale_of.scale c.in-Some-scale_of.ensures.value
 
-  answered : Answers the_number c.args.places c.args.limit c.rounded.result
+  answered : AnswersNumber the_number c.args.places c.args.limit c.rounded.result
   unfolding the_number
   answered = c.rounded.ensures (number_of c.in-Some.ensures.some.spelling) (sym c.in-Some.ensures.some.negative) c.in-Some.ensures.some.describes
 
@@ -57,3 +58,11 @@ returns-clause-answer c = settled_answer IsSpice c.args.text.now c.args.places c
 
 pub returns-in_default-scale_of-clause-answer : goal.returns-in_default-scale_of-clause-answer
 returns-in_default-scale_of-clause-answer c = no_scale c
+
+pub returns-in_default-scale_of-clause-only : goal.returns-in_default-scale_of-clause-only
+returns-in_default-scale_of-clause-only c = λ other a. answer_once IsSpice c.args.places c.args.limit c.args.text.now (spice_unique c.args.text.now) other _ a (no_scale c)
+
+pub returns-clause-only : goal.returns-clause-only
+returns-clause-only c = λ other a.
+    answer_once IsSpice c.args.places c.args.limit c.args.text.now (spice_unique c.args.text.now) other c.rounded.result a
+    (settled_answer IsSpice c.args.text.now c.args.places c.args.limit c.rounded.result (the_number c) (is_number c) (answered c))

@@ -2,7 +2,7 @@ use Rattle.std.proofs.Common.{rules, arith, ◌≡◌, ◌+◌, ℤ, subst, sym,
 use Rattle.std.specs.Int.{w128}
 use Rattle.std.proofs.lemmas.Int.{to_z-of_z}
 use Rattle.fixed_decimal.specs.Spice.{scaled}
-use Rattle.fixed_decimal.specs.Value.{signed, IsRead}
+use Rattle.fixed_decimal.specs.Value.{signed, IsWithin}
 use Rattle.fixed_decimal.proofs.Answering.{beyond_is, vanishes_is, above_is, read_is}
 use Rattle.fixed_decimal.proofs.round.rounded.Goals as goal
 
@@ -28,5 +28,5 @@ returns c = λ n negative d.
     let read = read_is n c.args.number.digits c.args.number.up c.args.number.down c.args.scale c.args.places c.args.limit d (c.args.number.up + c.from.result + c.from-2.result) (c.args.number.down + c.from-3.result) (omega arith) (omega arith) c.in-Some.magnitude (omega arith) other c.in-Some.ensures.some in
     let fits : FitsSigned w128 c.with_sign.result = search rules in
     let whole = to_z-of_z w128 c.with_sign.result fits in
-    let P : ℤ → Type 0 = λ x. IsRead (scaled n c.args.scale) c.args.places c.args.limit x in
+    let P : ℤ → Type 0 = λ x. IsWithin (scaled n c.args.scale) c.args.places c.args.limit x in
     subst P (ap (λ b. signed b c.in-Some.magnitude) negative ∙ (sym c.with_sign.ensures ∙ sym whole)) read

@@ -9,5 +9,5 @@ returns-in_err-digits-clause-none c =
 
 pub returns-clause-some : goal.returns-clause-some
 returns-clause-some c =
-    splits c.args.text.now c.take_sign-negative.result.1.now c.in_ok-digits.after.now c.take_exponent-up.result.2.now c.take_sign-negative.result.0 c.in_ok-digits.digits c.in_ok-digits.behind c.take_exponent-up.result.0 c.take_exponent-up.result.1 _
+    splits c.args.text.now c.take_sign-negative.result.1.now c.in_ok-digits.after.now c.take_exponent-up.result.2.now c.take_sign-negative.result.0 c.in_ok-digits.digits c.in_ok-digits.decimals c.take_exponent-up.result.0 c.take_exponent-up.result.1 _
     c.take_sign-negative.ensures c.in_ok-digits.ensures.some c.take_exponent-up.ensures.parts refl refl refl (ap (λ x. c.take_exponent-up.result.1 + x) c.from.ensures)

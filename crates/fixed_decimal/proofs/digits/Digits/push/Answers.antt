@@ -1,5 +1,5 @@
 use Rattle.std.proofs.Common.{arith, ℕ, ◌+◌, ◌*◌, subst, sym}
-use Rattle.fixed_decimal.specs.Kept.{Keeps}
+use Rattle.fixed_decimal.specs.inside.Kept.{Keeps}
 use Rattle.fixed_decimal.proofs.Keeping.{keeps_more, keeps_on}
 use Rattle.fixed_decimal.proofs.digits.Digits.push.Goals as goal
 

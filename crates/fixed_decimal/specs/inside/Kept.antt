@@ -5,9 +5,9 @@ use Rattle.fixed_decimal.specs.declared.digits.Digits.{Digits}
 use Rattle.fixed_decimal.specs.declared.error.DecimalError.{DecimalError}
 use Rattle.fixed_decimal.specs.declared.error.DecimalError.TheVariants.{NotNumber, Vanishes as ItVanishes, Range}
 use Rattle.fixed_decimal.specs.Number.{Number}
-use Rattle.fixed_decimal.specs.Value.{IsRead, Vanishes, IsAbove}
+use Rattle.fixed_decimal.specs.Value.{IsWithin, Vanishes, IsAbove}
 
--- the digits write this number: those that are kept, and behind them so many more, but none while at most 10^37 is kept
+-- The digits write this number: those that are kept, and after them so many more, but none while at most 10^37 is kept.
 pub record Keeps (number : ℕ) (digits : Digits) : Type 0 where
   pub rest : ℕ
   pub is : number ≡ digits.kept * 10 ^ digits.dropped + rest
@@ -15,12 +15,12 @@ pub record Keeps (number : ℕ) (digits : Digits) : Type 0 where
   pub full : 0 < digits.dropped → 10 ^ 37 < digits.kept
   pub fits : digits.kept < 10 ^ 38 + 10
 
--- the number is counted exactly up to 10^21, and above that as one that is not greater
+-- The number is counted exactly up to 10^21, and above that as one that is not greater.
 pub record IsCapped (number counted : ℕ) : Type 0 where
   pub most : counted ≤ number
   pub exact : counted < 10 ^ 21 → counted ≡ number
 
--- the number is these digits times 10^up over 10^down
+-- The number is these digits times 10^up over 10^down.
 pub record Describes (number : Number) (digits : Digits) (up down : ℕ) : Type 0 where
   pub written : ℕ
   pub power : ℕ
@@ -31,9 +31,9 @@ pub record Describes (number : Number) (digits : Digits) (up down : ℕ) : Type 
   pub numerator : number.numerator ≡ written * 10 ^ power
   pub denominator : number.denominator ≡ 10 ^ over
 
--- the answer to a number
-abbrev pub Answers : Number → ℕ → ℕ → Result ℤ DecimalError → Type 0
-Answers number places limit (Ok v) = IsRead number places limit v
-Answers number places limit (Err NotNumber) = ⊥
-Answers number places limit (Err ItVanishes) = Vanishes number places
-Answers number places limit (Err Range) = IsAbove number places limit
+-- The answer to a number.
+abbrev pub AnswersNumber : Number → ℕ → ℕ → Result ℤ DecimalError → Type 0
+AnswersNumber number places limit (Ok v) = IsWithin number places limit v
+AnswersNumber number places limit (Err NotNumber) = ⊥
+AnswersNumber number places limit (Err ItVanishes) = Vanishes number places
+AnswersNumber number places limit (Err Range) = IsAbove number places limit

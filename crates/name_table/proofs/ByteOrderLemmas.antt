@@ -1,14 +1,15 @@
 -- Byte order is strict, so distinct names stand in it in one way only.
-use Rattle.std.proofs.Common.{◌≡◌, ℕ, zero, suc, ◌⊎◌, inl, inr, List, [], ◌∷◌, Contains, refl, sym, subst, arith}
+use Rattle.std.proofs.Common.{◌≡◌, ℕ, suc, ◌⊎◌, inl, inr, List, [], ◌∷◌, Contains, refl, sym, subst, arith}
+use Rattle.name_table.specs.Laws.{member_cases, member_head, member_tail}
 use Rattle.name_table.specs.ByteOrder.{IsBefore, IsInByteOrder}
 
--- no name stands before itself
+-- No name stands before itself.
 pub before_itself : (a : List ℕ) → IsBefore a a → ⊥
 before_itself [] h = h
 before_itself (x ∷ xs) (inl h) = omega arith
 before_itself (x ∷ xs) (inr h) = before_itself xs h.1
 
--- of two names at most one stands before the other
+-- Of two names at most one stands before the other.
 pub before_once : (a b : List ℕ) → IsBefore a b → IsBefore b a → ⊥
 before_once [] [] h k = h
 before_once [] (y ∷ ys) h k = k
@@ -18,29 +19,18 @@ before_once (x ∷ xs) (y ∷ ys) (inl h) (inr k) = let e = k.0 in omega arith
 before_once (x ∷ xs) (y ∷ ys) (inr h) (inl k) = let e = h.0 in omega arith
 before_once (x ∷ xs) (y ∷ ys) (inr h) (inr k) = before_once xs ys h.1 k.1
 
--- a member of a list is its head or a member of its tail
-pub member_cases : {X : Type 0} (x : X) (xs : List X) (n : X) → Contains (x ∷ xs) n → (x ≡ n) ⊎ Contains xs n
-member_cases x xs n (zero, h, e) = inl e
-member_cases x xs n (suc k, h, e) = inr (k, omega arith, e)
-
-pub member_head : {X : Type 0} (x : X) (xs : List X) → Contains (x ∷ xs) x
-member_head x xs = (0, omega arith, refl)
-
-pub member_tail : {X : Type 0} (x : X) (xs : List X) (n : X) → Contains xs n → Contains (x ∷ xs) n
-member_tail x xs n (k, h, e) = (suc k, omega arith, e)
-
--- in a list in order the head stands before each member of the tail, and the tail is in order
+-- In a list in order the head stands before each member of the tail, and the tail is in order.
 pub before_rest : (x : List ℕ) (xs : List (List ℕ)) → IsInByteOrder (x ∷ xs) → (n : List ℕ) → Contains xs n → IsBefore x n
 before_rest x xs up n (k, h, e) = subst (IsBefore x) e (up 0 (suc k) n (omega arith) (omega arith))
 
 pub rest_in_order : (x : List ℕ) (xs : List (List ℕ)) → IsInByteOrder (x ∷ xs) → IsInByteOrder xs
 rest_in_order x xs up i j d i_below within = up (suc i) (suc j) d (omega arith) (omega arith)
 
--- each member of the one list is a member of the other
+-- Each member of the one list is a member of the other.
 abbrev pub HasAll : List (List ℕ) → List (List ℕ) → Type 0
 HasAll xs ys = (name : List ℕ) → Contains xs name → Contains ys name
 
--- the heads of two lists in order with the same members are one name
+-- The heads of two lists in order with the same members are one name.
 pub same_heads : (x : List ℕ) (xs : List (List ℕ)) (y : List ℕ) (ys : List (List ℕ))
     → IsInByteOrder (x ∷ xs) → IsInByteOrder (y ∷ ys) → HasAll (x ∷ xs) (y ∷ ys) → HasAll (y ∷ ys) (x ∷ xs) → x ≡ y
 same_heads x xs y ys up_x up_y there back =
@@ -51,7 +41,7 @@ same_heads x xs y ys up_x up_y there back =
     by (inr h) (inl e) = e
     by (inr h) (inr k) = absurd (before_once x y (before_rest x xs up_x y k) (before_rest y ys up_y x h))
 
--- so each member of the one tail is a member of the other
+-- So each member of the one tail is a member of the other.
 pub same_rest : (x : List ℕ) (xs ys : List (List ℕ)) → IsInByteOrder (x ∷ xs) → HasAll (x ∷ xs) (x ∷ ys) → HasAll xs ys
 same_rest x xs ys up there n h = by (member_cases x ys n (there n (member_tail x xs n h)))
   where
@@ -62,7 +52,7 @@ same_rest x xs ys up there n h = by (member_cases x ys n (there n (member_tail x
 no_member : (n : List ℕ) → Contains [] n → ⊥
 no_member n (k, h, e) = omega arith
 
--- distinct names stand in byte order in one way only
+-- Distinct names stand in byte order in one way only.
 pub same_in_order : (xs ys : List (List ℕ)) → IsInByteOrder xs → IsInByteOrder ys → HasAll xs ys → HasAll ys xs → xs ≡ ys
 same_in_order [] [] up_x up_y there back = refl
 same_in_order [] (y ∷ ys) up_x up_y there back = absurd (no_member y (back y (member_head y ys)))

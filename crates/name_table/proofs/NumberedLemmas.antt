@@ -18,10 +18,10 @@ use Rattle.std.proofs.lemmas.Option.{slice_get-get_or, slice_get-map, slice_get_
 use Rattle.name_table.specs.declared.key.Key.{Key}
 use Rattle.name_table.specs.declared.table.NumberedName.{NumberedName}
 use Rattle.name_table.specs.ByteOrder.{IsBefore, IsInByteOrder}
-use Rattle.name_table.specs.Numbered.{numbered, numbered_cmp, IsPlaced}
+use Rattle.name_table.specs.inside.Numbered.{numbered, numbered_cmp, IsPlaced}
 use Rattle.name_table.proofs.NumberingLemmas.{names_of, same_key, distinct_names}
 
--- ---- the list that is sorted
+-- ---- the list that is sorted.
 enumerate_push : {X : Type 0} (n : ℕ) (xs : List X) (x : X) → enumerate_from n (xs ++ x ∷ []) ≡ enumerate_from n xs ++ (n + length xs, x) ∷ []
 enumerate_push n [] x = let e : n ≡ n + 0 = omega arith in ap (λ k. (k, x) ∷ []) e
 enumerate_push n (y ∷ ys) x =
@@ -53,11 +53,11 @@ names_numbered n [] = refl
 names_numbered n (x ∷ xs) = ap (λ l. x ∷ l) (names_numbered (n + 1) xs)
 
 -- ---- places
--- the number m stands at its place
+-- the number m stands at its place.
 abbrev pub IsPlacedAt : List ℕ → List ℕ → ℕ → Type 0
 IsPlacedAt numbers places m = slice_get numbers (get_or places m 0) ≡ Some m
 
--- one more number is placed; a number that comes again is placed anew
+-- One more number is placed; a number that comes again is placed anew.
 pub placed_more : (numbers places : List ℕ) (i n : ℕ) → i < length numbers → get_or numbers i 0 ≡ n → n < length places
     → All (IsPlacedAt numbers places) (take i numbers) → All (IsPlacedAt numbers (set places n i)) (take (i + 1) numbers)
 placed_more numbers places i n within at n_within before =
@@ -72,7 +72,7 @@ placed_more numbers places i n within at n_within before =
     kept m old (inl e) = subst (IsPlacedAt numbers (set places n i)) (sym e) here
     kept m old (inr e) = ap (slice_get numbers) (get_or-set_other places n m i 0 e) ∙ old
 
--- ---- the sorted list: `entries` holds what `numbered names` holds
+-- ---- the sorted list: `entries` holds what `numbered names` holds.
 none_of : List ℕ → NumberedName
 none_of d = record { name = record { name = record { ref_ptr = (0, 0); now = d } }; number = 0 }
 
@@ -81,14 +81,14 @@ same_names names entries moved =
     let P : List Key → Type 0 = λ l. IsPermutation (names_of l) (names_of (map (λ n. n.name) entries)) in
     subst P (names_numbered 0 names) (IsPermutation-map (λ k. k.name.now) _ _ (IsPermutation-map (λ n. n.name) _ _ moved))
 
--- each name has its entry
+-- Each name has its entry.
 has_entry : (names : List Key) (entries : List NumberedName) → IsPermutation (numbered names) entries → (i : ℕ) (d : Key) → i < length names → Contains entries (record { name = get_or names i d; number = i })
 has_entry names entries moved i d within =
     let none : NumberedName = record { name = d; number = 0 } in
     let here : Contains (numbered names) (get_or (numbered names) i none) = Contains-get_or (numbered names) i none (omega (arith, length-numbered names)) in
     Contains-permutation (numbered names) entries _ moved (subst (Contains (numbered names)) (numbered_at names i none within) here)
 
--- an entry of the sorted list is a name with its place
+-- An entry of the sorted list is a name with its place.
 abbrev IsEntryOf : List Key → NumberedName → Type 0
 IsEntryOf names n = (n.number < length names) × (slice_get names n.number ≡ Some n.name)
 
@@ -108,7 +108,7 @@ numbers_within names entries moved k d within =
 pub length_entries : (names : List Key) (entries : List NumberedName) → IsPermutation (numbered names) entries → length entries ≡ length names
 length_entries names entries moved = length_permutation (numbered names) entries moved ∙ length-numbered names
 
--- so a number that is placed is placed at its name
+-- So a number that is placed is placed at its name.
 pub name_at_place : (names : List Key) (entries : List NumberedName) (places : List ℕ) → IsPermutation (numbered names) entries → IsPlaced (map (λ n. n.number) entries) places
     → (i : ℕ) → i < length (names_of names) → slice_get (names_of (map (λ n. n.name) entries)) (get_or places i 0) ≡ slice_get (names_of names) i
 name_at_place [] entries places moved placed i within = absurd (omega arith)
@@ -135,7 +135,7 @@ name_at_place (x ∷ xs) entries places moved placed i within =
         (k, omega (arith, ap length is, length-map entries (λ n. n.number)), ap (λ l. get_or l k i) is ∙ get_or-map (λ n. n.number) entries k n i k_within ∙ ap (λ m. m.number) e)
 
 -- ---- order
--- what a sort by name and number says of two different names
+-- what a sort by name and number says of two different names.
 before_from_cmp : (a b : List ℕ) (o : Ordering) → a ≢ b → is_lt (ordering_then (slice_cmp nat_cmp b a) o) ≡ false → IsBefore a b
 before_from_cmp [] [] o other low = absurd (other refl)
 before_from_cmp [] (y ∷ ys) o other low = tt
@@ -176,7 +176,7 @@ in_byte_order names entries apart moved up i j d below within =
         get_or-map (λ k. k.name.now) (map (λ n. n.name) entries) k (none_of d).name d (omega (arith, length-map entries (λ n. n.name)))
         ∙ ap (λ k. k.name.now) (get_or-map (λ n. n.name) entries k (none_of d) (none_of d).name k_within)
 
--- the slices of the entries are the names of their keys
+-- The slices of the entries are the names of their keys.
 pub slices_of_entries : (entries : List NumberedName) → map (λ n. n.now) (map (λ n. n.name.name) entries) ≡ names_of (map (λ n. n.name) entries)
 slices_of_entries [] = refl
 slices_of_entries (n ∷ ns) = ap (λ l. n.name.name.now ∷ l) (slices_of_entries ns)

@@ -19,7 +19,7 @@ names_of keys = map (λ k. k.name.now) keys
 abbrev pub same_key : Key → Key → Bool
 same_key x y = bytes_eq x.name.now y.name.now
 
--- no two names of distinct keys are the same
+-- No two names of distinct keys are the same.
 pub distinct_names : (keys : List Key) → IsDistinct same_key keys → AllPairs (λ a b. a ≢ b) (names_of keys)
 distinct_names [] apart i j d below within same = omega arith
 distinct_names (k ∷ ks) apart i j d below within same =
@@ -36,7 +36,7 @@ any-names_of : (name : List ℕ) (keys : List Key) → list_any (λ k. bytes_eq 
 any-names_of name [] = refl
 any-names_of name (k ∷ ks) = ap (λ b. bytes_eq name k.name.now || b) (any-names_of name ks)
 
--- what the test of a key says of its name
+-- What the test of a key says of its name.
 pub is_named : (name : List ℕ) (keys : List Key) → list_any (λ k. bytes_eq name k.name.now) keys ≡ true → Contains (names_of keys) name
 is_named name keys e =
     Contains-from_any (λ x y. (bytes_eq-Decides x y).0) name (names_of keys) (sym (any-names_of name keys) ∙ e)
@@ -45,18 +45,18 @@ pub is_not_named : (name : List ℕ) (keys : List Key) → list_any (λ k. bytes
 is_not_named name keys e there =
     true≢false (sym (any-names_of name keys ∙ list_any-from_Contains nat_list_eq_equiv name (names_of keys) there) ∙ e)
 
--- the name at the place of a key
+-- The name at the place of a key.
 pub name_at : (keys : List Key) (i : ℕ) (key found : Key) → slice_get keys i ≡ Some found → same_key key found ≡ true → slice_get (names_of keys) i ≡ Some key.name.now
 name_at keys i key found at same =
     slice_get-map (λ k. k.name.now) keys i ∙ ap (option_map (λ k. k.name.now)) at ∙ ap Some (sym ((bytes_eq-Decides key.name.now found.name.now).0 same))
 
--- the name at the place where the test of a key passes
+-- The name at the place where the test of a key passes.
 pub name_at_position : (keys : List Key) (i : ℕ) (key : Key) → position (λ k. bytes_eq key.name.now k.name.now) keys ≡ Some i → slice_get (names_of keys) i ≡ Some key.name.now
 name_at_position keys i key e =
     let found = position-Some (λ k. bytes_eq key.name.now k.name.now) keys i key e in
     name_at keys i key (get_or keys i key) (slice_get-get_or keys i key found.0) found.1
 
--- the names after a key is inserted
+-- The names after a key is inserted.
 pub takes_name : (keys : List Key) (key : Key) → TakesName (names_of keys) (names_of (if list_any (same_key key) keys then keys else (keys ++ key ∷ []))) key.name.now
 takes_name keys key = by (list_any (same_key key) keys) refl
   where
@@ -64,7 +64,7 @@ takes_name keys key = by (list_any (same_key key) keys) refl
     by true e = inl (is_named key.name.now keys e, refl)
     by false e = inr (is_not_named key.name.now keys e, map_push (λ k. k.name.now) keys key)
 
--- whether a name is there, as it is told
+-- Whether a name is there, as it is told.
 pub tells : (name : List ℕ) (keys : List Key) (r : Bool) → r ≡ list_any (λ k. bytes_eq name k.name.now) keys → IsTrue r ↔ Contains (names_of keys) name
 tells name keys true e = (λ h. is_named name keys (sym e), λ h. refl)
 tells name keys false e = (λ h. absurd (true≢false (sym h)), λ h. absurd (is_not_named name keys (sym e) h))

@@ -1,3 +1,4 @@
 pub mod ByteOrder
 pub mod Numbering
-pub mod Numbered
+pub mod Laws
+pub mod inside

@@ -1,7 +1,7 @@
 //! The names of a netlist's nodes: numbered as they come, and then put in byte order.
 //!
-//! A `NameTable` gives each new name the next number. `NameTable::ordered` sorts the names once, at the end, and says where each
-//! number went. Names are slices of the text that they stand in, and no name is copied.
+//! A `NameTable` gives each new name the next number. `NameTable::ordered` sorts the names once, at the end, and says
+//! where each number went. Names are slices of the text that they stand in, and no name is copied.
 #![tactic(auto)]
 
 mod key;

@@ -1,8 +1,8 @@
 //! The table of names, and the names in byte order.
-ghost use Rattle.std.specs.Prelude.{◌≡◌, ◌≢◌, ℕ, ◌-◌, ◌<◌, ◌^◌, ◌↔◌, List, [], map, length, slice_get, slice_index, slice_index_or, All, AllPairs, Contains, EachIndex, IfOk, IsPermutation, IsSorted, IsTrue, OnErr, OnOk};
+ghost use Rattle.std.specs.Prelude.{◌≡◌, ℕ, ◌-◌, ◌<◌, ◌^◌, ◌↔◌, List, [], map, length, slice_get, slice_index, slice_index_or, All, Contains, EachIndex, IfOk, IsPermutation, IsSorted, IsTrue, OnErr, OnOk};
 ghost use Rattle.name_table.specs.ByteOrder.{IsInByteOrder};
-ghost use Rattle.name_table.specs.Numbered.{numbered, numbered_cmp, IsPlaced};
-ghost use Rattle.name_table.specs.Numbering.{TakesName};
+ghost use Rattle.name_table.specs.inside.Numbered.{numbered, numbered_cmp, IsPlaced};
+ghost use Rattle.name_table.specs.Numbering.{TakesName, AreDistinct};
 
 use crate::key::Key;
 use indexmap::IndexSet;
@@ -68,7 +68,7 @@ impl<'a> NameTable<'a> {
     pub fn len(&self) -> usize
         ensures len { result ≡ length self.now }
         ensures most { result < 2 ^ 32 }
-        ensures distinct { AllPairs (λ a b. a ≢ b) self.now }
+        ensures distinct { AreDistinct self.now }
     {
         self.names.len()
     }
@@ -92,9 +92,10 @@ impl<'a> NameTable<'a> {
         ensures number { IfOk result (λ number. slice_get self.new number ≡ Some name.now) }
         ensures taken { OnOk result (TakesName self.old self.new name.now) }
         ensures err { OnErr result (self.new ≡ self.old) }
-        ensures full { (result ≡ Err NameError.Full) ↔ ((length self.old ≡ 2 ^ 32 - 1) × (¬ Contains self.old name.now)) }
+        ensures full { (result ≡ Err NameError.Full) ↔
+            ((length self.old ≡ 2 ^ 32 - 1) × (¬ Contains self.old name.now)) }
         ensures want { result ≡ Err NameError.Want → ¬ Contains self.old name.now }
-        ensures distinct { AllPairs (λ a b. a ≢ b) self.new }
+        ensures distinct { AreDistinct self.new }
     {
         let key = Key { name };
         if self.names.len() == MOST_NAMES {
@@ -115,7 +116,8 @@ impl<'a> NameTable<'a> {
         ensures same_names { IfOk result (λ ordered. IsPermutation self.now (map (λ n. n.now) ordered.names.items)) }
         ensures every_number { IfOk result (λ ordered. length ordered.places.items ≡ length self.now) }
         ensures places { IfOk result (λ ordered. EachIndex self.now (λ number.
-            slice_get (map (λ n. n.now) ordered.names.items) (slice_index ordered.places.items number) ≡ slice_get self.now number)) }
+            slice_get (map (λ n. n.now) ordered.names.items) (slice_index ordered.places.items number)
+            ≡ slice_get self.now number)) }
     {
         let sorted = sorted(alloc, self.names.as_slice())?;
         let names = names_of(alloc, &sorted)?;

@@ -1,11 +1,8 @@
-use Rattle.std.proofs.Common.{◌≡◌, ◌≢◌, ℕ, List, AllPairs, Contains, Some, slice_get, length, ap, sym, subst, ◌∙◌, inl, refl, arith}
+use Rattle.std.proofs.Common.{◌≡◌, ℕ, List, Contains, Some, slice_get, length, ap, sym, subst, ◌∙◌, inl, refl, arith}
 use Rattle.std.proofs.lemmas.List.{length-map}
-use Rattle.name_table.specs.Numbering.{TakesName}
+use Rattle.name_table.specs.Numbering.{TakesName, AreDistinct}
 use Rattle.name_table.proofs.NumberingLemmas.{names_of, distinct_names, is_named, is_not_named, takes_name, name_at, name_at_position}
 use Rattle.name_table.proofs.table.NameTable.number.Goals as goal
-
-abbrev AreDistinct : List (List ℕ) → Type 0
-AreDistinct names = AllPairs (λ a b. a ≢ b) names
 
 pub returns-in_default-clause-full : goal.returns-in_default-clause-full
 returns-in_default-clause-full c =

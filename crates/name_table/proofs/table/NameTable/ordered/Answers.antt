@@ -3,7 +3,7 @@ use Rattle.std.proofs.lemmas.List.{length-map}
 use Rattle.std.specs.List.{IsDistinct}
 use Rattle.name_table.specs.declared.table.NumberedName.{NumberedName}
 use Rattle.name_table.specs.ByteOrder.{IsInByteOrder}
-use Rattle.name_table.specs.Numbered.{IsPlaced}
+use Rattle.name_table.specs.inside.Numbered.{IsPlaced}
 use Rattle.name_table.proofs.NumberingLemmas.{names_of, same_key}
 use Rattle.name_table.proofs.NumberedLemmas.{same_names, numbers_within, length_entries, name_at_place, in_byte_order, slices_of_entries}
 use Rattle.name_table.proofs.table.NameTable.ordered.Goals as goal

@@ -7,14 +7,14 @@ use Rattle.std.specs.Cmp.Lexicographic.{slice_cmp}
 use Rattle.name_table.specs.declared.key.Key.{Key}
 use Rattle.name_table.specs.declared.table.NumberedName.{NumberedName}
 
--- each name of a list with its place
+-- Each name of a list with its place.
 abbrev pub numbered : List Key → List NumberedName
 numbered names = map (λ p. record { name = p.1; number = p.0 }) (enumerate_from 0 names)
 
--- the order by the name, and then by the number
+-- The order by the name, and then by the number.
 abbrev pub numbered_cmp : NumberedName → NumberedName → Ordering
 numbered_cmp x y = ordering_then (slice_cmp nat_cmp x.name.name.now y.name.name.now) (nat_cmp x.number y.number)
 
--- each of the numbers stands at the place that is given for it
+-- Each of the numbers stands at the place that is given for it.
 abbrev pub IsPlaced : List ℕ → List ℕ → Type 0
 IsPlaced numbers places = All (λ number. slice_get numbers (slice_index places number) ≡ Some number) numbers

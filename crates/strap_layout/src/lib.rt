@@ -1,0 +1,10 @@
+//! The straps of a rule: the lines that it draws over a core, for each of its nets.
+#![tactic(auto)]
+
+mod lines;
+mod rule;
+#[cfg(test)]
+mod tests;
+
+pub use lines::straps;
+pub use rule::StrapRule;

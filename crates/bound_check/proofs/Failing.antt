@@ -1,5 +1,5 @@
 -- There is no failing test exactly where the certificate holds.
-use Rattle.grid_net.proofs.Tables.{same_entry}
+use Rattle.std.proofs.lemmas.List.{get_or_default}
 use Rattle.std.proofs.Common.{subst, ◌≡◌, ℕ, ◌<◌, ℤ, pos, negsuc, neg_ℤ, ◌-ℤ◌, ◌≤ℤ◌, arith, refl, sym, ap, ◌∙◌, List, length, get_or, All, Option, Some, None, Bool, true, false, ◌&&◌}
 use Rattle.std.proofs.lemmas.Int.{ints}
 use lib.Signed.{le_z}
@@ -11,7 +11,7 @@ use Rattle.rounding.specs.Rounding.{floor_div, ceil_div}
 use Rattle.grid_net.specs.Network.{Network, entry_of, pad_at}
 use Rattle.grid_net.specs.Limits.{IsInLimit}
 use Rattle.grid_net.specs.Certificate.{FlowsWithin, value_limit, flow_limit, high_sum, low_sum, HighHolds, LowHolds, IsCertificate}
-use Rattle.grid_net.proofs.Search.{none_first, none_second, none_both, none_of, of_none, none_below, below_none}
+use Rattle.grid_net.specs.Laws.Search.{none_first, none_second, none_both, none_of, of_none, none_below, below_none}
 use Rattle.grid_net.specs.Search.{or_else}
 use Rattle.bound_check.specs.Failing.{unless, in_limit, value_test, flow_test, sum_test, values_round, flows_round, sums_round, first_failing}
 
@@ -163,12 +163,12 @@ module _ (net : Network) (high low : List ℤ) where
   pub values_of_high : length high ≡ net.nodes → values_round net up_of down_of ≡ None → All (IsInLimit value_limit) high
   values_of_high size none = λ k d l.
       let v = (value_out net up_of down_of k (none_below net.nodes (value_test up_of down_of) none k (omega (arith, size)))).0 in
-      subst (IsInLimit value_limit) (same_entry high k (pos 0) d l) v
+      subst (IsInLimit value_limit) (get_or_default high k (pos 0) d l) v
 
   pub values_of_low : length low ≡ net.nodes → values_round net up_of down_of ≡ None → All (IsInLimit value_limit) low
   values_of_low size none = λ k d l.
       let v = (value_out net up_of down_of k (none_below net.nodes (value_test up_of down_of) none k (omega (arith, size)))).1 in
-      subst (IsInLimit value_limit) (same_entry low k (pos 0) d l) v
+      subst (IsInLimit value_limit) (get_or_default low k (pos 0) d l) v
 
   pub flows_of_high : flows_round net up_of down_of ≡ None → FlowsWithin floor_div net flow_limit up_of
   flows_of_high none = λ k d l. (flow_out net up_of down_of (get_or net.resistors k d) (none_of (flow_test up_of down_of) net.resistors none k d l)).0

@@ -1,6 +1,9 @@
-pub mod Totals
 pub mod Principle
 pub mod Failing
 pub mod Refused
-pub mod Around
 pub mod Worked
+pub mod Loose
+pub mod Rules
+pub mod Tightness
+pub mod Printed
+pub mod Kept

@@ -1,2 +1,4 @@
 pub mod Failing
+pub mod Loose
+pub mod Certified
 pub mod Example

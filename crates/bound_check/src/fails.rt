@@ -2,11 +2,7 @@ ghost use Rattle.std.specs.Prelude.{◌≡◌};
 ghost use Rattle.grid_net.specs.Certificate.{value_limit, flow_limit};
 ghost use Rattle.bound_check.specs.Failing.{unless, in_limit};
 
-/// No value of a certificate is farther from 0 than this many yoctovolts.
-pub const GREATEST_VALUE: i128 = 10_000_000_000_000_000_000_000_000_000_000_000_000;
-
-/// No flow of a certificate is farther from 0 than this many femtoamperes.
-pub const GREATEST_FLOW: i128 = 10_000_000_000_000_000_000_000_000_000_000;
+use grid_net::{GREATEST_FLOW, GREATEST_VALUE};
 
 /// Which test of a certificate fails: a value, a flow or a sum, of the high list or of the low one.
 #[derive(Clone, Copy, Debug, PartialEq, Eq)]

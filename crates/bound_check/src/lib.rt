@@ -1,21 +1,27 @@
-//! The test of a certificate: whether two lists of voltages bound every solution of a network, and what it proves of the solutions.
+//! The test of a certificate: whether two lists of voltages bound every solution of a network, and what it proves of the
+//! solutions. `Certified` keeps a network with a tight certificate, and tells the bounds that are printed.
 //!
-//! What a network, a solution and a certificate are stands in the `specs/` of `grid_net`; which failing test a refusal names stands in `specs/Failing.antt` here.
+//! What a network, a solution and a certificate are stands in the `specs/` of `grid_net`. Here stand which failing test a
+//! refusal names (`Failing`, `Loose`) and what is printed (`Certified`).
 #![tactic(auto)]
 
 mod certificate;
+mod certified;
 mod fails;
 mod flows;
-mod law;
+mod laws;
 mod sums;
+mod tight;
 mod values;
 
 pub use certificate::is_certificate;
+pub use certified::{Certified, NANOAMPERE, NANOVOLT};
 pub use fails::{Fails, Side};
-pub use law::{
+pub use laws::{
     a_refusal_is_true, a_search_goes_up, maximum_principle, no_failing_test, worked_example,
     worked_refusals,
 };
+pub use tight::is_tight;
 
 #[cfg(test)]
 mod tests;

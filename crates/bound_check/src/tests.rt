@@ -1,5 +1,7 @@
 use crate::certificate::is_certificate;
+use crate::certified::Certified;
 use crate::fails::{Fails, Side};
+use crate::tight::is_tight;
 use grid_net::{Load, Net, Pad, Resistor};
 use std::process::Abort;
 
@@ -243,6 +245,124 @@ fn ring_with_a_range(rt: HostRuntime) {
         assert!(rt;
             answer(&rt, &net, high.as_slice(), low.as_slice()) == want,
             "{node}: {up} and {down}"
+        );
+    }
+}
+
+/// The network of one resistor of 1 ohm, with a pad of 1 V and a load of 1 mA.
+fn one_ohm(rt: &(impl AllocGlobal + Abort)) -> Net {
+    let resistors = vec![in rt.alloc();
+        Resistor {
+            a: 1,
+            b: 0,
+            ohms: OHM
+        },
+    ]
+    .expect(rt, "a resistor");
+    let pads = vec![in rt.alloc();
+        Pad {
+            node: 1,
+            volts: VOLT
+        },
+    ]
+    .expect(rt, "a pad");
+    let loads = vec![in rt.alloc();
+        Load {
+            node: 0,
+            low: MILLI,
+            high: MILLI
+        },
+    ]
+    .expect(rt, "a load");
+    Net::build(rt.alloc(), 2, resistors, pads, loads).expect(rt, "a network")
+}
+
+/// What the test of tightness says of two lists that are a certificate.
+fn looseness(rt: &impl Abort, net: &Net, high: &[i128], low: &[i128]) -> Result<(), (u32, i128)> {
+    assert!(rt; high.len() == net.nodes() as usize);
+    assert!(rt; low.len() == net.nodes() as usize);
+    match is_certificate(net, high, low) {
+        Ok(()) => is_tight(net, high, low),
+        Err(_) => panic!(rt; "no certificate"),
+    }
+}
+
+#[test]
+fn where_lists_are_tight(rt: HostRuntime) {
+    let net = one_ohm(&rt);
+    let above = 999000000000001000000000;
+    let below = 998999999999999000000000;
+    for (high, low, want) in [
+        ([above, VOLT], [below, VOLT], Ok(())),
+        (
+            [above + 128999999999, VOLT],
+            [below - 128999999999, VOLT],
+            Ok(()),
+        ),
+        ([above + 129000000000, VOLT], [below, VOLT], Err((0, 129))),
+        (
+            [above + 129000000000, VOLT],
+            [below - 130000000000, VOLT],
+            Err((0, 130)),
+        ),
+        ([above + 1000000000, VOLT + 1], [below, VOLT], Err((1, 1))),
+        (
+            [above + 1000000000, VOLT + 1],
+            [below - 2000000000, VOLT - 2],
+            Err((1, 2)),
+        ),
+    ] {
+        assert!(rt;
+            looseness(&rt, &net, high.as_slice(), low.as_slice()) == want,
+            "{} and {}",
+            high[0],
+            low[0]
+        );
+    }
+}
+
+/// Keeps the network of one resistor with these two numbers at its node.
+fn kept(rt: &(impl AllocGlobal + Abort), high: i128, low: i128) -> Certified {
+    let net = one_ohm(rt);
+    let high = vec![in rt.alloc(); high, VOLT].expect(rt, "a list");
+    let low = vec![in rt.alloc(); low, VOLT].expect(rt, "a list");
+    assert!(rt; high.len() == net.nodes() as usize);
+    assert!(rt; low.len() == net.nodes() as usize);
+    match is_certificate(&net, &high, &low) {
+        Ok(()) => {}
+        Err(_) => panic!(rt; "no certificate"),
+    }
+    match is_tight(&net, &high, &low) {
+        Ok(()) => Certified::keep(net, high, low, 7),
+        Err(_) => panic!(rt; "not tight"),
+    }
+}
+
+/// The tightest lists and the loosest tight ones of one resistor print the same digits, and so do all between them, since a
+/// printed digit goes up with its number.
+#[test]
+fn digits_of_one_resistor(rt: HostRuntime) {
+    for (high, low) in [
+        (999000000000001000000000, 998999999999999000000000),
+        (999000000000129999999999, 998999999999870000000001),
+    ] {
+        let made = kept(&rt, high, low);
+        assert!(rt;
+            made.net().nodes() == 2 && made.high()[0] == high && made.low()[0] == low,
+            "what is kept"
+        );
+        assert!(rt; made.sweeps() == 7, "the sweeps");
+        assert!(rt;
+            made.voltage(0) == (998999999, 999000001),
+            "the voltage at n"
+        );
+        assert!(rt;
+            made.voltage(1) == (1000000000, 1000000000),
+            "the voltage at p"
+        );
+        assert!(rt;
+            made.current(0) == (999999, 1000001),
+            "the current from p to n"
         );
     }
 }

@@ -19,10 +19,10 @@ use Rattle.grid_net.specs.Network.{first_pad}
 use Rattle.grid_net.specs.Adding.{given_load}
 use Rattle.grid_net.specs.Limits.{most_nodes, most_resistors, greatest_resistance, greatest_voltage, greatest_load}
 use Rattle.grid_net.specs.Building.{BuildFails, KeepsLimits, PadsAgree, first_bad_end, unless_at_most, first_unfit, resistance_fits, voltage_fits, first_beyond_limit, conflict_with, first_conflict, first_net_refusal}
-use Rattle.grid_net.proofs.Search.{none_first, none_second, none_both, none_of, of_none}
+use Rattle.grid_net.specs.Laws.Search.{none_first, none_second, none_both, none_of, of_none}
 use Rattle.grid_net.proofs.Refusals.{place_of_map}
 use Rattle.grid_net.proofs.Tables.{passes_alone, same_voltage}
-use Rattle.grid_net.proofs.Built.{first_is_of_list}
+use Rattle.grid_net.specs.Laws.Pads.{first_is_of_list}
 
 -- ---- no place
 pub none_pass : {X : Type 0} (p : X → Bool) (xs : List X) → position p xs ≡ None → All (λ x. p x ≡ false) xs
@@ -226,7 +226,7 @@ module _ (n : ℕ) (rs : List Resistor) (ps : List Pad) (ls : List Load) where
       let t = tests_from_limits keeps in
       none_both ends (or_else beyond (first_conflict ps)) t.0 (none_both beyond (first_conflict ps) t.1 (agree_in ps agree))
 
-  -- two steps to a refusal
+  -- Two steps to a refusal.
   pub refused_by_limit : (e : NetError) → ends ≡ None → beyond ≡ Some e → first_net_refusal n rs ps ls ≡ Some e
   refused_by_limit e f g = ap (λ o. or_else o (or_else beyond (first_conflict ps))) f ∙ ap (λ o. or_else o (first_conflict ps)) g
 

@@ -17,9 +17,10 @@ use Rattle.grid_net.specs.Adding.{end_sum, LoadsAddUp, given_load}
 use Rattle.grid_net.specs.Building.{KeepsLimits, load_of, pad_of, network_of}
 use Rattle.grid_net.proofs.Sums.{over_le, over_le_below, over_add, over_same, once}
 use Rattle.grid_net.proofs.Tables.{table_is_map, map_tells}
+use Rattle.grid_net.specs.Laws.Pads.{first_is_of_list}
 
 -- ---- the pads in the order of nodes
--- each number is at least the one before it and 1, and the first at least a
+-- Each number is at least the one before it and 1, and the first at least a.
 Rises : ℕ → List ℕ → Type 0
 Rises a [] = Unit {0}
 Rises a (x ∷ xs) = (a ≤ x) × Rises (suc x) xs
@@ -61,7 +62,7 @@ module _ (ps : List Pad) where
   pub nodes_in_order : (n : ℕ) → IsStrictlyIncreasing (map node_of (from 0 n))
   nodes_in_order n = rising_list 0 (map node_of (from 0 n)) (nodes_rise 0 n)
 
-  -- what holds of each first pad holds of each pad in order
+  -- What holds of each first pad holds of each pad in order.
   pub each_first : (P : Pad → Type 0) (n a m : ℕ) → a + m ≤ n → ((i : ℕ) (v : ℤ) → i < n → first_pad ps i ≡ Some v → P (record { node = i; volts = v })) → All P (from a m)
   each_first P n a zero h each = All-nil P
   each_first P n a (suc m) h each = by_pad (first_pad ps a) (from (a + 1) m) refl (each_first P n (a + 1) m (omega arith) each)
@@ -101,18 +102,9 @@ module _ (ps : List Pad) where
           skip true h = absurd (h refl)
           skip false h = e
 
-  -- the pad of a node is the first that was handed in for it
+  -- The pad of a node is the first that was handed in for it.
   pub kept_pad : (n i : ℕ) → i < n → first_pad (from 0 n) i ≡ first_pad ps i
   kept_pad n i l = first_from 0 n i (omega arith) (omega arith)
-
--- a first pad is one of the list
-pub first_is_of_list : (P : Pad → Type 0) (ps : List Pad) (i : ℕ) (v : ℤ) → All P ps → first_pad ps i ≡ Some v → (p : Pad) × (p.node ≡ i) × (p.volts ≡ v) × P p
-first_is_of_list P [] i v all e = absurd (let f : ◌≡◌ {A = Option ℤ} None (Some v) = e in cc)
-first_is_of_list P (p ∷ ps) i v all e = by_test (eqb p.node i) refl e (first_is_of_list P ps i v (All-tail P p ps all))
-  where
-    by_test : (b : Bool) → eqb p.node i ≡ b → cond b (Some p.volts) (first_pad ps i) ≡ Some v → (first_pad ps i ≡ Some v → (q : Pad) × (q.node ≡ i) × (q.volts ≡ v) × P q) → (q : Pad) × (q.node ≡ i) × (q.volts ≡ v) × P q
-    by_test true t e rest = (p, eqb-true p.node i t, cc, All-head P p ps all)
-    by_test false t e rest = rest e
 
 -- ---- the sums of the loads
 abbrev IsRange : Load → Type 0
@@ -122,7 +114,7 @@ part_in_order : (b : Bool) (u v : ℤ) → u ≤ℤ v → cond b u (pos 0) ≤�
 part_in_order true u v h = h
 part_in_order false u v h = omega (arith, ints)
 
--- the sum of low ends is at most that of high ends
+-- The sum of low ends is at most that of high ends.
 pub sums_in_order : (given : List Load) → All IsRange given → (i : ℕ) → end_sum (λ l. l.low) given i ≤ℤ end_sum (λ l. l.high) given i
 sums_in_order [] all i = omega (arith, ints)
 sums_in_order (l ∷ ls) all i =
@@ -153,7 +145,7 @@ sizes_at_most n (l ∷ ls) =
     let rest = sizes_at_most n ls in
     omega arith
 
--- the sum over the nodes is at most the sum over the loads that are handed in
+-- The sum over the nodes is at most the sum over the loads that are handed in.
 pub total_at_most_given : (net : Network) (given : List Load) → LoadsAddUp net given → total_load net ≤ given_load given
 total_at_most_given net given add =
     let same = over_le_below net.nodes (λ i. load_size net i) (λ i. size (end_sum (λ l. l.low) given i) (end_sum (λ l. l.high) given i)) (λ i l. let e = add i l in omega (arith, ints, e)) in

@@ -11,12 +11,12 @@ use Rattle.grid_net.specs.Building.{first_unfit}
 use Rattle.std.specs.List.{position, position_or_len, prefix_len}
 use Rattle.grid_net.specs.Search.{or_else}
 
--- the library's word for the first of two answers
+-- The library's word for the first of two answers.
 pub first_answer : {X : Type 0} (a b : Option X) → option_or a b ≡ or_else a b
 first_answer None b = refl
 first_answer (Some x) b = refl
 
--- the place of an entry whose number passes a test is the place of the number
+-- The place of an entry whose number passes a test is the place of the number.
 prefix_of_map : {X Y : Type 0} (f : X → Y) (p : Y → Bool) (xs : List X) → prefix_len p (map f xs) ≡ prefix_len (λ x. p (f x)) xs
 prefix_of_map f p [] = refl
 prefix_of_map f p (x ∷ xs) = ap (λ n. cond (p (f x)) (1 + n) 0) (prefix_of_map f p xs)
@@ -31,7 +31,7 @@ entry_of_map f [] k d e l = absurd (omega arith)
 entry_of_map f (x ∷ xs) zero d e l = refl
 entry_of_map f (x ∷ xs) (suc k) d e l = entry_of_map f xs k d e (omega arith)
 
--- a place that is found lies in the list
+-- A place that is found lies in the list.
 pub place_in_list : {X : Type 0} (p : X → Bool) (xs : List X) (at : ℕ) → position p xs ≡ Some at → at < length xs
 place_in_list p xs at e = by_test (ltb (position_or_len p xs) (length xs)) (position_or_len p xs) (length xs) (λ h. h) at refl e
   where
@@ -45,7 +45,7 @@ given_next [] k d l = absurd (omega arith)
 given_next (x ∷ xs) zero d l = omega arith
 given_next (x ∷ xs) (suc k) d l = let e = given_next xs k d (omega arith) in omega arith
 
--- the next load adds its greater magnitude: a loop's step
+-- The next load adds its greater magnitude: a loop's step.
 pub given_more : (ls : List Load) (k : ℕ) (d : Load) → k < length ls → given_load (take (k + 1) ls) ≡ given_load (take k ls) + max (unsigned_abs (get_or ls k d).low) (unsigned_abs (get_or ls k d).high)
 given_more ls k d l = rw add-one (given_next ls k d l)
 

@@ -1,10 +1,9 @@
 -- Sums over nodes and over lists.
 use Rattle.std.proofs.Math.Seq.{take-append_seam}
 use Rattle.std.proofs.lemmas.List.Sums.{sum_by_more}
-use Rattle.std.proofs.Common.{◌++◌, drop, sum, sym, ◌≡◌, ℕ, zero, suc, ◌+◌, ◌*◌, ◌<◌, ◌≤◌, inl, inr, ℤ, ◌+ℤ◌, arith, refl, ap, ◌∙◌, List, [], ◌∷◌, length, get_or, take, Bool, true, false, cond, eqb, eqb-true, add-one}
-use Rattle.std.proofs.lemmas.Int.{ints}
+use Rattle.std.proofs.Common.{◌++◌, drop, sum, sym, ◌≡◌, ℕ, zero, suc, ◌+◌, ◌*◌, ◌<◌, ◌≤◌, inl, inr, arith, refl, ap, ◌∙◌, List, length, get_or, take, Bool, true, false, cond, eqb, eqb-true, add-one}
 use Rattle.std.proofs.lemmas.Bool.{cases_eq}
-use Rattle.grid_net.specs.Network.{total, over_nodes}
+use Rattle.grid_net.specs.Network.{over_nodes}
 
 pub over_le : (n : ℕ) (f g : ℕ → ℕ) → ((i : ℕ) → f i ≤ g i) → over_nodes n f ≤ over_nodes n g
 over_le zero f g h = omega arith
@@ -37,7 +36,7 @@ none_beyond (suc n) a m h =
     let last = none_if (eqb a n) m (λ e. let s = eqb-true a n e in omega arith) in
     omega arith
 
--- one node alone adds its number
+-- One node alone adds its number.
 pub once : (n a m : ℕ) → over_nodes n (λ i. cond (eqb a i) m 0) ≤ m
 once zero a m = omega arith
 once (suc n) a m = elim (cases_eq a n) [
@@ -52,20 +51,11 @@ over_grows n (suc m) f h = elim (cases_eq n (suc m)) [
   | inr ne ↦ (let rest = over_grows n m f (omega arith) in omega arith)
 ]
 
-total_next : {X : Type 0} (f : X → ℤ) (xs : List X) (i : ℕ) (d : X) → i < length xs → total f (take (suc i) xs) ≡ total f (take i xs) +ℤ f (get_or xs i d)
-total_next f [] i d l = absurd (omega arith)
-total_next f (x ∷ xs) zero d l = omega (arith, ints)
-total_next f (x ∷ xs) (suc i) d l = let e = total_next f xs i d (omega arith) in omega (arith, ints, e)
-
--- the next element of a list adds its term: a loop's step
-pub total_more : {X : Type 0} (f : X → ℤ) (xs : List X) (i : ℕ) (d : X) → i < length xs → total f (take (i + 1) xs) ≡ total f (take i xs) +ℤ f (get_or xs i d)
-total_more f xs i d l = rw add-one (total_next f xs i d l)
-
--- what a slice of a vector writes back
+-- What a slice of a vector writes back.
 pub written_back : (size : ℕ) (new old : List ℕ) → length new ≡ size → take size (new ++ drop (length new) old) ≡ new
 written_back size new old e = ap (λ n. take n (new ++ drop (length new) old)) (sym e) ∙ take-append_seam new (drop (length new) old)
 
--- the sum of the first numbers of a list that tells f
+-- The sum of the first numbers of a list that tells f.
 pub sum_is_over : (xs : List ℕ) (f : ℕ → ℕ) (k : ℕ) → k ≤ length xs → ((i : ℕ) → i < k → get_or xs i 0 ≡ f i) → sum (take k xs) ≡ over_nodes k f
 sum_is_over xs f zero l at = refl
 sum_is_over xs f (suc k) l at =

@@ -3,7 +3,10 @@ pub mod Network
 pub mod Limits
 pub mod Adding
 pub mod Building
-pub mod Around
-pub mod Kept
+pub mod Level
 pub mod Solution
 pub mod Certificate
+pub mod Mirror
+pub mod Solver
+pub mod Laws
+pub mod inside

@@ -3,31 +3,32 @@ use Rattle.std.specs.Prelude.{ℕ, ◌<◌, ◌≤◌, ◌*◌, ◌^◌, ℤ, po
 use Rattle.std.specs.List.Sorted.{IsStrictlyIncreasing}
 use Rattle.grid_net.specs.Network.{Network, IsNetwork, total_load}
 
--- the greatest number of nodes
+-- The greatest number of nodes.
 abbrev pub most_nodes : ℕ
 most_nodes = 2 * 10 ^ 6
 
--- the greatest number of resistors
+-- The greatest number of resistors.
 abbrev pub most_resistors : ℕ
 most_resistors = 4 * 10 ^ 6
 
--- the greatest resistance, in nano-ohms: 1000 ohms
+-- The greatest resistance, in nano-ohms: 1000 ohms.
 abbrev pub greatest_resistance : ℕ
 greatest_resistance = 10 ^ 12
 
--- the greatest magnitude of a pad's voltage, in yoctovolts: 10 volts
+-- The greatest magnitude of a pad's voltage, in yoctovolts: 10 volts.
 abbrev pub greatest_voltage : ℕ
 greatest_voltage = 10 ^ 25
 
--- the greatest sum of the magnitudes of the loads, in femtoamperes: 1000 amperes
+-- The greatest sum of the magnitudes of the loads, in femtoamperes: 1000 amperes.
 abbrev pub greatest_load : ℕ
 greatest_load = 10 ^ 18
 
--- a number lies within a limit, on either side of 0
+-- A number lies within a limit, on either side of 0.
 abbrev pub IsInLimit : ℕ → ℤ → Type 0
 IsInLimit limit z = (neg_ℤ (pos limit) ≤ℤ z) × (z ≤ℤ pos limit)
 
--- what holds of each network that is built: it is a network, its pads stand at nodes in their order and no node has two, each node has one load, and its numbers keep their limits
+-- What holds of each network that is built: it is a network, its pads stand at nodes in their order and no node has
+-- two, each node has one load, and its numbers keep their limits.
 pub record IsBuilt (net : Network) : Type 0 where
   pub is_network : IsNetwork net
   pub pads_are_nodes : All (λ p. p.node < net.nodes) net.pads

@@ -14,7 +14,8 @@ pub enum Quantity {
     Resistance,
     /// A pad's voltage: within 10^25 yoctovolts of 0.
     Voltage,
-    /// The sum, over the loads as they are handed in, of the greater magnitude of the two ends: at most 10^18 femtoamperes.
+    /// The sum, over the loads as they are handed in, of the greater magnitude of the two ends: at most 10^18
+    /// femtoamperes.
     Loads,
 }
 
@@ -31,7 +32,8 @@ pub enum NetError {
         at: u64,
         number: i128,
     },
-    /// Two pads of one node differ: the first pad of the node, and the first pad in the list that differs from the first of its node.
+    /// Two pads of one node differ: the first pad of the node, and the first pad in the list that differs from the
+    /// first of its node.
     PadConflict {
         node: u32,
         first: i128,

@@ -1,20 +1,36 @@
-//! A power grid's network of resistors, pads and loads: which lists make one, what it holds, and what a solution and a certificate of it are.
+//! A power grid's network of resistors, pads and loads: which lists make one, what it holds, how far its nodes are
+//! from its
+//! pads, and what a solution and a certificate of it are.
 //!
-//! The definitions stand in `specs/`: `Network` and its sums, `Building` (which network the lists make, and what refuses them), `Solution` (Ohm's law and Kirchhoff's current law), and `Certificate`.
+//! The definitions stand in `specs/`: `Network` and its sums, `Building` (which network the lists make, and what
+//! refuses
+//! them), `Level`, `Solution` (Ohm's law and Kirchhoff's current law), `Certificate`, and `Solver`. What only the
+//! code's own
+//! proofs speak of stands in `specs/inside/`.
 #![tactic(auto)]
 
 mod around;
+mod circuit;
 mod error;
-mod law;
+pub mod hostile;
+mod laws;
+mod level;
+mod limits;
 mod network;
 mod part;
 mod refusal;
+mod solver;
 mod table;
 
 pub use error::{NetError, Quantity};
-pub use law::{built_network, no_net_refusal};
+pub use laws::{built_network, no_net_refusal};
+pub use limits::{
+    GREATEST_FLOW, GREATEST_LOAD, GREATEST_RESISTANCE, GREATEST_VALUE, GREATEST_VOLTAGE,
+    MOST_EXCESS, MOST_NODES, MOST_RESISTORS,
+};
 pub use network::Net;
 pub use part::{Load, LoadRange, Pad, Resistor};
+pub use solver::{Fixed, Solver};
 
 #[cfg(test)]
 mod tests;

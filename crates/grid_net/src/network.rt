@@ -1,42 +1,40 @@
-ghost use Rattle.std.specs.Prelude.{◌≡◌, ◌<◌, ◌≤ℤ◌, All, None, IfOk, IfErr, IsOk};
+ghost use Rattle.std.specs.Prelude.{◌≡◌, ◌<◌, ◌≤ℤ◌, ℕ, true, false, All, None, IfOk, IfErr, IsOk, OnOk};
 ghost use Rattle.grid_net.specs.Network.{pad_at, load_range, places_at};
 ghost use Rattle.grid_net.specs.Limits.{IsBuilt};
 ghost use Rattle.grid_net.specs.Building.{network_of, KeepsLimits, PadsAgree, first_net_refusal, BuildFails};
+ghost use Rattle.grid_net.specs.Level.{LevelIs, IsSupplied, IsFirstUnsupplied};
 
-use crate::around::{Around, around_nodes};
+use crate::circuit::Circuit;
 use crate::error::NetError;
-use crate::part::{Load, LoadRange, Pad, Resistor};
-use crate::refusal::limit_refusal;
-use crate::table::{load_ranges, pad_voltages, pads_in_order};
+use crate::level::levels;
+use crate::part::{Load, Pad, Resistor};
 use std::alloc::Global;
 use std::marker::Model;
 
-/// A network within its limits. Contracts see its nodes, resistors, pads and loads.
+/// A network within its limits, with the level of each node. Contracts see its nodes, resistors, pads and loads.
 #[derive(Drop)]
 pub struct Net {
-    nodes: u32,
-    resistors: Vec<Resistor>,
-    pads: Vec<Pad>,
-    voltages: Vec<Option<i128>>,
-    ranges: Vec<LoadRange>,
-    around: Around,
+    circuit: Circuit,
+    levels: Vec<Option<u32>>,
 }
 
 impl Model for Net {
     ghost use Rattle.grid_net.specs.Network.{Network};
+    ghost use Rattle.grid_net.specs.inside.Level.{AreLevels};
 
     ghost Value = { Network };
 
-    ghost use Rattle.grid_net.specs.Kept.{network_in, IsKept};
+    ghost view = { λ net. net.circuit };
 
-    ghost view = { network_in };
-
-    ghost invariant = { IsKept };
+    ghost invariant = { λ net. AreLevels net.circuit net.levels.items };
 }
 
 impl Net {
-    /// Makes the network of the lists: loads of one node are added, and pads are kept in the order of nodes, each node once.
-    /// Refuses, in this order, an end that is no node, a quantity beyond its limit, and two pads of one node that differ.
+    /// Makes the network of the lists: loads of one node are added, and pads are kept in the order of nodes, each node
+    /// once. The levels of all nodes are found in time linear in the nodes and resistors.
+    ///
+    /// No load's low end is above its high end. What refuses the lists, in this order: an end that is no node, a
+    /// quantity beyond its limit, and two pads of one node that differ.
     pub fn build(
         alloc: Global,
         nodes: u32,
@@ -51,21 +49,9 @@ impl Net {
         ensures pads_agree { IsOk result → PadsAgree pads.items }
         ensures refused { IfErr result (λ e. BuildFails nodes resistors.items pads.items loads.items e) }
     {
-        if let Some(refusal) = limit_refusal(nodes, &resistors, &pads, &loads) {
-            return Err(refusal);
-        }
-        let voltages = pad_voltages(alloc, nodes, &pads)?;
-        let pads = pads_in_order(alloc, &voltages)?;
-        let ranges = load_ranges(alloc, nodes, &loads)?;
-        let around = around_nodes(alloc, nodes, &resistors)?;
-        Ok(Net {
-            nodes,
-            resistors,
-            pads,
-            voltages,
-            ranges,
-            around,
-        })
+        let circuit = Circuit::build(alloc, nodes, resistors, pads, loads)?;
+        let levels = levels(alloc, &circuit)?;
+        Ok(Net { circuit, levels })
     }
 
     /// The number of nodes, which are counted from 0.
@@ -73,21 +59,21 @@ impl Net {
         ensures nodes { result ≡ self.now.nodes }
         ensures built { IsBuilt self.now }
     {
-        self.nodes
+        self.circuit.nodes()
     }
 
     /// The resistors, as they were handed in.
     pub fn resistors(&self) -> &[Resistor]
         ensures { result.now ≡ self.now.resistors }
     {
-        &self.resistors
+        self.circuit.resistors()
     }
 
     /// The pads in the order of nodes, each node once.
     pub fn pads(&self) -> &[Pad]
         ensures { result.now ≡ self.now.pads }
     {
-        &self.pads
+        self.circuit.pads()
     }
 
     /// The voltage of the pad at a node, in yoctovolts, if one stands there.
@@ -95,7 +81,7 @@ impl Net {
         requires { node < self.now.nodes }
         ensures { result ≡ pad_at self.now node }
     {
-        self.voltages[node as usize]
+        self.circuit.pad(node)
     }
 
     /// The range of the current that is drawn out of a node, in femtoamperes: the low end and the high end.
@@ -104,8 +90,7 @@ impl Net {
         ensures low { result.0 ≡ (load_range self.now node).low }
         ensures high { result.1 ≡ (load_range self.now node).high }
     {
-        let range = self.ranges[node as usize];
-        (range.low, range.high)
+        self.circuit.load(node)
     }
 
     /// The places, in the list of resistors, of those that stand at a node, each once and ascending.
@@ -113,8 +98,37 @@ impl Net {
         requires { node < self.now.nodes }
         ensures { result.now ≡ places_at self.now.resistors node }
     {
-        let start = self.around.starts[node as usize] as usize;
-        let end = self.around.starts[node as usize + 1] as usize;
-        &self.around.places[start..end]
+        self.circuit.around(node)
+    }
+
+    /// The level of a node: how many resistors the shortest chain from it to a pad has. `None` exactly where no chain
+    /// joins it to a pad.
+    pub fn level(&self, node: u32) -> Option<u32>
+        requires { node < self.now.nodes }
+        ensures { LevelIs self.now node result }
+    {
+        self.levels[node as usize]
+    }
+
+    // Whether a chain of resistors joins the node to a pad.
+    fn is_supplied(&self, node: u32) -> bool
+        requires { node < self.now.nodes }
+        ensures yes { result ≡ true → IsSupplied self.now node }
+        ensures no { result ≡ false → IsSupplied self.now node → ⊥ }
+    {
+        self.level(node).is_some()
+    }
+
+    /// Whether each node is supplied: joined to a pad by a chain of resistors. If not, the first node that is not.
+    pub fn supply(&self) -> Result<(), u32>
+        ensures ok { OnOk result ((i : ℕ) → i < self.now.nodes → IsSupplied self.now i) }
+        ensures first { IfErr result (λ node. IsFirstUnsupplied self.now node) }
+    {
+        for node in 0..self.nodes() {
+            if !self.is_supplied(node) {
+                return Err(node);
+            }
+        }
+        Ok(())
     }
 }

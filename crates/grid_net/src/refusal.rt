@@ -5,17 +5,10 @@ ghost use Rattle.grid_net.specs.Adding.{given_load};
 ghost use Rattle.grid_net.specs.Building.{KeepsLimits, first_net_refusal, first_bad_end, first_unfit, resistance_fits, voltage_fits, first_beyond_limit};
 
 use crate::error::{NetError, Quantity};
+use crate::limits::{
+    GREATEST_LOAD, GREATEST_RESISTANCE, GREATEST_VOLTAGE, MOST_NODES, MOST_RESISTORS,
+};
 use crate::part::{Load, Pad, Resistor};
-
-const MOST_NODES: i128 = 2_000_000;
-
-const MOST_RESISTORS: i128 = 4_000_000;
-
-const GREATEST_RESISTANCE: i128 = 1_000_000_000_000;
-
-const GREATEST_VOLTAGE: i128 = 10_000_000_000_000_000_000_000_000;
-
-const GREATEST_LOAD: i128 = 1_000_000_000_000_000_000;
 
 /// The place of the first resistor with an end beyond the last node.
 fn bad_resistor(nodes: u32, resistors: &[Resistor]) -> Option<usize>

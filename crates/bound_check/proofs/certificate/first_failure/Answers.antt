@@ -2,7 +2,7 @@ use Rattle.std.proofs.Common.{◌∙◌, sym, ap}
 use Rattle.grid_net.specs.Network.{entry_of}
 use Rattle.grid_net.specs.Search.{first_below, first_of}
 use Rattle.bound_check.specs.Failing.{value_test, flow_test}
-use Rattle.grid_net.proofs.Search.{none_when_not_some}
+use Rattle.grid_net.specs.Laws.Search.{none_when_not_some}
 use Rattle.bound_check.proofs.Failing.{values_of_high, values_of_low, flows_of_high, flows_of_low}
 use Rattle.bound_check.proofs.certificate.first_failure.Goals as goal
 

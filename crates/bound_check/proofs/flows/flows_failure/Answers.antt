@@ -1,7 +1,7 @@
 use Rattle.std.proofs.Common.{◌∙◌, sym, pos}
 use Rattle.grid_net.specs.Network.{entry_of}
 use Rattle.bound_check.specs.Failing.{flow_test}
-use Rattle.grid_net.proofs.Search.{found_entry, none_next, none_when_not_some}
+use Rattle.grid_net.specs.Laws.Search.{found_entry, none_next, none_when_not_some}
 use Rattle.bound_check.proofs.flows.flows_failure.Goals as goal
 
 pub returns-then-is_some : goal.returns-then-is_some

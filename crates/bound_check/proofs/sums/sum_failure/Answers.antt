@@ -3,7 +3,7 @@ use mir.Syntax.{w128}
 use Rattle.std.proofs.lemmas.Int.{ints}
 use Rattle.grid_net.specs.declared.part.Pad.{Pad}
 use Rattle.grid_net.specs.Limits.{IsInLimit, greatest_voltage}
-use Rattle.grid_net.proofs.Built.{first_is_of_list}
+use Rattle.grid_net.specs.Laws.Pads.{first_is_of_list}
 use Rattle.bound_check.proofs.sums.sum_failure.Goals as goal
 
 pub pad_failure-requires-clause-volts : goal.pad_failure-requires-clause-volts

@@ -1,7 +1,7 @@
 use Rattle.std.proofs.Common.{◌∙◌, sym, arith, ℕ, ◌<◌}
 use Rattle.grid_net.specs.Network.{entry_of, pad_at}
 use Rattle.bound_check.specs.Failing.{sum_test}
-use Rattle.grid_net.proofs.Search.{found_answer}
+use Rattle.grid_net.specs.Laws.Search.{found_answer}
 use Rattle.bound_check.proofs.sums.sums_failure.Goals as goal
 
 pub returns-then-is_some : goal.returns-then-is_some

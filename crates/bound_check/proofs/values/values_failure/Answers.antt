@@ -2,7 +2,7 @@ use Rattle.std.proofs.Common.{◌≡◌, ◌∙◌, sym, ℕ, length, subst, pos
 use mir.Syntax.{w128}
 use Rattle.grid_net.specs.Network.{entry_of}
 use Rattle.bound_check.specs.Failing.{value_test}
-use Rattle.grid_net.proofs.Search.{found_answer}
+use Rattle.grid_net.specs.Laws.Search.{found_answer}
 use Rattle.bound_check.proofs.values.values_failure.Goals as goal
 
 pub returns-then-is_some : goal.returns-then-is_some

@@ -1,0 +1,5 @@
+pub mod Half
+pub mod Made
+pub mod Mirror
+pub mod Moving
+pub mod Raising

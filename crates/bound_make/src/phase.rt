@@ -1,0 +1,112 @@
+ghost use Rattle.std.specs.Prelude.{◌≡◌, ◌<◌, ◌≤◌, ℕ, true, false, length};
+ghost use Rattle.grid_net.specs.Limits.{IsBuilt};
+ghost use Rattle.bound_make.specs.inside.Half.{seen};
+ghost use Rattle.bound_make.specs.inside.Moving.{IsFull, IsTrim, IsRaising, IsRaisable, IsLowering, IsLowerable, rise_room, fall_room};
+
+use crate::flow::node_sum;
+use crate::half::Half;
+use crate::step::{fall_step, rise_step};
+use grid_net::{MOST_EXCESS, Net};
+
+/// Raises a node whose sum is below 1, as far as its sum asks for at once, and tells whether it was raised.
+fn raise(net: &Net, half: Half, x: &mut [i128], node: u32) -> bool
+    requires built { IsBuilt net.now }
+    requires node_in { node < net.now.nodes }
+    requires raisable { IsRaisable (seen half net.now) x.old }
+    ensures kept { IsRaising (seen half net.now) x.old x.new }
+    ensures full { result ≡ false → (x.new ≡ x.old) × IsFull (seen half net.now) x.new node }
+    ensures rose { result ≡ true → rise_room x.new < rise_room x.old }
+{
+    if net.pad(node).is_some() {
+        return false;
+    }
+    let sum = node_sum(net, half, x, node);
+    if 1 <= sum {
+        return false;
+    }
+    x[node as usize] += rise_step(net, x, node, 1 - sum);
+    true
+}
+
+/// Lowers a node whose sum passes 1 by too much, as far as its sum allows at once, and tells whether it was lowered.
+fn lower(net: &Net, half: Half, x: &mut [i128], node: u32) -> bool
+    requires built { IsBuilt net.now }
+    requires node_in { node < net.now.nodes }
+    requires lowerable { IsLowerable (seen half net.now) x.old }
+    ensures kept { IsLowering (seen half net.now) x.old x.new }
+    ensures trim { result ≡ false → (x.new ≡ x.old) × IsTrim (seen half net.now) x.new node }
+    ensures fell { result ≡ true → fall_room x.new < fall_room x.old }
+{
+    if net.pad(node).is_some() {
+        return false;
+    }
+    let spare = node_sum(net, half, x, node) - 1;
+    let most = MOST_EXCESS * (net.around(node).len() as i128 + 1);
+    if spare <= most {
+        return false;
+    }
+    x[node as usize] -= fall_step(net, x, node, spare);
+    true
+}
+
+/// One sweep over all nodes that raises each whose sum is below 1, and tells whether there was one.
+fn raise_all(net: &Net, half: Half, x: &mut [i128]) -> bool
+    requires built { IsBuilt net.now }
+    requires raisable { IsRaisable (seen half net.now) x.old }
+    ensures kept { IsRaising (seen half net.now) x.old x.new }
+    ensures full { result ≡ false → (i : ℕ) → i < net.now.nodes → IsFull (seen half net.now) x.new i }
+    ensures rose { result ≡ true → rise_room x.new < rise_room x.old }
+{
+    let mut rose = false;
+    for node in 0..net.nodes() {
+        if raise(net, half, x, node) {
+            rose = true;
+        }
+    }
+    rose
+}
+
+/// One sweep over all nodes that lowers each whose sum passes 1 by too much, and tells whether there was one.
+fn lower_all(net: &Net, half: Half, x: &mut [i128]) -> bool
+    requires built { IsBuilt net.now }
+    requires lowerable { IsLowerable (seen half net.now) x.old }
+    ensures kept { IsLowering (seen half net.now) x.old x.new }
+    ensures trim { result ≡ false → (i : ℕ) → i < net.now.nodes → IsTrim (seen half net.now) x.new i }
+    ensures fell { result ≡ true → fall_room x.new < fall_room x.old }
+{
+    let mut fell = false;
+    for node in 0..net.nodes() {
+        if lower(net, half, x, node) {
+            fell = true;
+        }
+    }
+    fell
+}
+
+/// Raises nodes until each sum is at least 1, and counts the sweeps in which one rose.
+pub fn raise_until_full(net: &Net, half: Half, x: &mut [i128]) -> u64
+    requires built { IsBuilt net.now }
+    requires raisable { IsRaisable (seen half net.now) x.old }
+    ensures kept { IsRaising (seen half net.now) x.old x.new }
+    ensures full { (i : ℕ) → i < net.now.nodes → IsFull (seen half net.now) x.new i }
+{
+    let mut sweeps: u64 = 0;
+    while raise_all(net, half, x) {
+        sweeps = sweeps.saturating_add(1);
+    }
+    sweeps
+}
+
+/// Lowers nodes until no sum passes 1 by too much, and counts the sweeps in which one fell.
+pub fn lower_until_trim(net: &Net, half: Half, x: &mut [i128]) -> u64
+    requires built { IsBuilt net.now }
+    requires lowerable { IsLowerable (seen half net.now) x.old }
+    ensures kept { IsLowering (seen half net.now) x.old x.new }
+    ensures trim { (i : ℕ) → i < net.now.nodes → IsTrim (seen half net.now) x.new i }
+{
+    let mut sweeps: u64 = 0;
+    while lower_all(net, half, x) {
+        sweeps = sweeps.saturating_add(1);
+    }
+    sweeps
+}

@@ -1,0 +1,4 @@
+pub mod Around
+pub mod Circuit
+pub mod Flows
+pub mod Level

@@ -1,7 +1,10 @@
--- Of the answers other than want of memory, one alone has its cause, where what is held is told and no read failed.
-use Rattle.std.proofs.Common.{◌≡◌, ◌≢◌, ◌≤◌, ◌<◌, ◌⊎◌, inl, inr, ℕ, ℤ, List, Option, Some, None, IfSome, length, refl, sym, ap, subst, ◌∙◌, arith, slice_get}
-use Rattle.outside.specs.Counts.{Rose}
-use Rattle.outside.specs.Files.{Holdings, text_of}
+-- Of the answers other than want of memory, one alone has its cause, where it is known what the files hold.
+use Rattle.std.proofs.Common.{◌≡◌, ◌≢◌, ◌≤◌, ◌<◌, ◌⊎◌, inl, inr, ℕ, ℤ, Bool, true, false, List, Some, length, refl, sym, ap, subst, ◌∙◌, arith, slice_get}
+use Rattle.std.specs.Prelude.{bytes_eq}
+use Rattle.std.proofs.lemmas.Slice.Eq.{bytes_eq-Decides}
+use Rattle.outside.specs.Counts.{FaultCounts, Rose, last_count}
+use Rattle.outside.specs.Files.{Holdings, bytes_in}
+use Rattle.outside.specs.Whole.{longest_text}
 use Rattle.grid_net.specs.Network.{Network}
 use Rattle.grid_net.specs.Certificate.{IsCertificate}
 use Rattle.bound_check.specs.declared.fails.Side.{Side}
@@ -12,18 +15,19 @@ use Rattle.plain_certificate.specs.Certificate.{IsPlainCertificate}
 use Rattle.pdn_signoff.specs.declared.answer.Answer.{Answer}
 use Rattle.pdn_signoff.specs.declared.answer.Answer.TheVariants.{Usage, Want, ReadFault, TooLong, NotPlain, Certified, NotCertified}
 use Rattle.pdn_signoff.specs.Words.{IsCheck, IsUsage}
-use Rattle.pdn_signoff.specs.Check.{FilesThen, AreTexts, StandFor, Judges, Answers, IsCause, HasNoNetwork, HasNoLists, longest_text}
+use Rattle.pdn_signoff.specs.Check.{FilesThen, NoneFailed, StandFor, Answers, HasNoNetwork, HasNoLists}
+use Rattle.pdn_signoff.specs.Command.{IsCause, CanRise}
 use Rattle.pdn_signoff.proofs.Causes.{AreLaws, IsSameReading, same_reading, of_held, one_netlist, one_certificate_file}
 
--- the texts stand for a network and two lists
-pub record Stands (n c : List ℕ) : Type 0 where
+-- The texts stand for a network and two lists.
+pub record HaveLists (n c : List ℕ) : Type 0 where
   pub names : List (List ℕ)
   pub net : Network
   pub high : List ℤ
   pub low : List ℤ
   pub stand : StandFor n c names net high low
 
--- the text of a netlist is a network's, and no lists stand in that of the certificate
+-- The text of a netlist is a network's, and no lists stand in that of the certificate.
 pub record LacksLists (n c : List ℕ) : Type 0 where
   pub names : List (List ℕ)
   pub net : Network
@@ -31,7 +35,7 @@ pub record LacksLists (n c : List ℕ) : Type 0 where
   pub none : HasNoLists c names
 
 module _ (file_n file_c n c : List ℕ) where
-  -- the answers over two files that are held, each with its cause
+  -- The answers over two files that are held, each with its cause.
   abbrev pub IsLongNetlist : Answer → Type 0
   IsLongNetlist a = (a ≡ TooLong file_n) × (longest_text < length n)
 
@@ -45,16 +49,16 @@ module _ (file_n file_c n c : List ℕ) where
   IsNoCertificate a = (a ≡ NotPlain file_c) × (length n ≤ longest_text) × (length c ≤ longest_text) × LacksLists n c
 
   abbrev pub IsHolding : Answer → Type 0
-  IsHolding a = (s : Stands n c) × (a ≡ Certified s.net.nodes) × (length n ≤ longest_text) × (length c ≤ longest_text) × IsCertificate s.net s.high s.low
+  IsHolding a = (s : HaveLists n c) × (a ≡ Certified s.net.nodes) × (length n ≤ longest_text) × (length c ≤ longest_text) × IsCertificate s.net s.high s.low
 
   abbrev pub IsFailingFirst : Answer → Type 0
-  IsFailingFirst a = (s : Stands n c) × (f : Fails) × (node : List ℕ) × (a ≡ NotCertified node f.side f.found) × (length n ≤ longest_text) × (length c ≤ longest_text)
+  IsFailingFirst a = (s : HaveLists n c) × (f : Fails) × (node : List ℕ) × (a ≡ NotCertified node f.side f.found) × (length n ≤ longest_text) × (length c ≤ longest_text)
       × (first_failing s.net s.high s.low ≡ Some f) × (slice_get s.names f.node ≡ Some node)
 
   abbrev pub IsStage : Answer → Type 0
   IsStage a = IsLongNetlist a ⊎ (IsLongCertificate a ⊎ (IsNoNetlist a ⊎ (IsNoCertificate a ⊎ (IsHolding a ⊎ IsFailingFirst a))))
 
--- two answers are one, where each of two kinds has one answer and the kinds exclude each other
+-- Two answers are one, where each of two kinds has one answer and the kinds exclude each other.
 one_of_two : (P Q : Answer → Type 0) → ((a b : Answer) → P a → P b → a ≡ b) → ((a b : Answer) → Q a → Q b → a ≡ b) → ((a b : Answer) → P a → Q b → ⊥) → (a b : Answer) → (P a ⊎ Q a) → (P b ⊎ Q b) → a ≡ b
 one_of_two P Q one_p one_q apart a b (inl x) (inl y) = one_p a b x y
 one_of_two P Q one_p one_q apart a b (inl x) (inr y) = absurd (apart a b x y)
@@ -62,15 +66,15 @@ one_of_two P Q one_p one_q apart a b (inr x) (inl y) = absurd (apart b a y x)
 one_of_two P Q one_p one_q apart a b (inr x) (inr y) = one_q a b x y
 
 module _ (laws : AreLaws) (file_n file_c n c : List ℕ) where
-  -- two readings of the same texts
-  same : (s t : Stands n c) → IsSameReading s.names t.names s.net t.net s.high t.high s.low t.low
+  -- Two readings of the same texts.
+  same : (s t : HaveLists n c) → IsSameReading s.names t.names s.net t.net s.high t.high s.low t.low
   same s t = same_reading laws n c s.names t.names s.net t.net s.high t.high s.low t.low s.stand t.stand
 
   one_holding : (a b : Answer) → IsHolding file_n file_c n c a → IsHolding file_n file_c n c b → a ≡ b
   one_holding a b x y = x.1 ∙ ap (λ (net : Network). Certified net.nodes) (sym (same x.0 y.0).net_is) ∙ sym y.1
 
-  -- the first failing test of the one reading is the first of the other
-  same_fails : (s t : Stands n c) (f g : Fails) → first_failing s.net s.high s.low ≡ Some f → first_failing t.net t.high t.low ≡ Some g → f ≡ g
+  -- The first failing test of the one reading is the first of the other.
+  same_fails : (s t : HaveLists n c) (f g : Fails) → first_failing s.net s.high s.low ≡ Some f → first_failing t.net t.high t.low ≡ Some g → f ≡ g
   same_fails s t f g ef eg =
       let e = same s t in
       let moved : first_failing s.net s.high s.low ≡ Some g = subst (λ x. first_failing s.net s.high x ≡ Some g) e.low_is (subst (λ x. first_failing s.net x t.low ≡ Some g) e.high_is (subst (λ x. first_failing x t.high t.low ≡ Some g) e.net_is eg)) in
@@ -91,8 +95,8 @@ module _ (laws : AreLaws) (file_n file_c n c : List ℕ) where
       let moved : first_failing x.0.net x.0.high x.0.low ≡ Some g = subst (λ z. first_failing x.0.net x.0.high z ≡ Some g) e.low_is (subst (λ z. first_failing x.0.net z t.low ≡ Some g) e.high_is (subst (λ z. first_failing z t.high t.low ≡ Some g) e.net_is first)) in
       let clash = sym (laws.no_failing x.0.net x.0.high x.0.low x.4) ∙ moved in cc)
 
-  -- lists that stand in the text are missed by no reading of it
-  no_lists_apart : (l : LacksLists n c) (s : Stands n c) → ⊥
+  -- Lists that stand in the text are missed by no reading of it.
+  no_lists_apart : (l : LacksLists n c) (s : HaveLists n c) → ⊥
   no_lists_apart l s =
       let names : s.names ≡ l.names = laws.one_names n s.names l.names s.net l.net s.stand.network l.network in
       l.none s.high s.low (subst (λ x. IsPlainCertificate c x s.high s.low) names s.stand.lists)
@@ -111,7 +115,7 @@ module _ (laws : AreLaws) (file_n file_c n c : List ℕ) where
         ]
       ])
 
-  -- both texts are short enough where a text is judged
+  -- Both texts are short enough where a text is judged.
   fit : (a : Answer) → (IsNoNetlist file_n file_c n c a ⊎ (IsNoCertificate file_n file_c n c a ⊎ (IsHolding file_n file_c n c a ⊎ IsFailingFirst file_n file_c n c a))) → (length n ≤ longest_text) × (length c ≤ longest_text)
   fit a (inl x) = (x.1, x.2)
   fit a (inr (inl x)) = (x.1, x.2)
@@ -127,62 +131,113 @@ module _ (laws : AreLaws) (file_n file_c n c : List ℕ) where
     | inr texts ↦ let z = fit b texts in omega (arith, x.1, z.0)
   ])
 
--- an answer over two files that are held, where no read failed, is at one of the stages
-stage_of : (before after : FilesThen) (held : Holdings) (n c : List ℕ) (a : Answer) → before.told ≡ Some held → ¬ Rose before.faults after.faults → a ≢ Want → Answers before after n c a → IsStage n c (text_of held n) (text_of held c) a
-stage_of before after held n c Usage told calm some why = absurd why
-stage_of before after held n c Want told calm some why = absurd (some refl)
-stage_of before after held n c (ReadFault file) told calm some why = absurd (calm why.1.fault)
-stage_of before after held n c (TooLong file) told calm some why =
+-- A count that rose has not stayed, where it can rise.
+rose_or_stays : (old new : ℕ) → Rose old new → new ≡ old → new ≢ last_count → ⊥
+rose_or_stays old new (inl more) same can = omega arith
+rose_or_stays old new (inr last) same can = can last
+
+module _ (before after : FilesThen) (held : Holdings) (file_n file_c : List ℕ) where
+  -- The answers to a file that could not be read, each with its cause.
+  abbrev pub IsNetlistUnread : Answer → Type 0
+  IsNetlistUnread a = (a ≡ ReadFault file_n) × Rose before.counts.faults after.counts.faults × Rose (before.counts.reads file_n) (after.counts.reads file_n)
+
+  abbrev pub IsCertificateUnread : Answer → Type 0
+  IsCertificateUnread a = (a ≡ ReadFault file_c) × Rose before.counts.faults after.counts.faults × (length (bytes_in held file_n) ≤ longest_text) × (file_n ≢ file_c → after.counts.reads file_n ≡ before.counts.reads file_n)
+
+  abbrev pub IsUnread : Answer → Type 0
+  IsUnread a = IsNetlistUnread a ⊎ IsCertificateUnread a
+
+  -- No read failed, and the answer is one of those over two files that are held.
+  abbrev pub IsQuiet : Answer → Type 0
+  IsQuiet a = NoneFailed before after × IsStage file_n file_c (bytes_in held file_n) (bytes_in held file_c) a
+
+  -- The two files are one, or the netlist could be read before the certificate.
+  one_file : (same : Bool) → bytes_eq file_n file_c ≡ same → CanRise after.counts → (a b : Answer) → IsNetlistUnread a → IsCertificateUnread b → a ≡ b
+  one_file true is can a b x y = x.0 ∙ ap ReadFault ((bytes_eq-Decides file_n file_c).0 is) ∙ sym y.0
+  one_file false is can a b x y = absurd (rose_or_stays _ _ x.2 (y.3 (λ e. let clash = sym is ∙ (bytes_eq-Decides file_n file_c).1 e in cc)) (can.reads file_n))
+
+  one_unread : CanRise after.counts → (a b : Answer) → IsUnread a → IsUnread b → a ≡ b
+  one_unread can a b (inl x) (inl y) = x.0 ∙ sym y.0
+  one_unread can a b (inl x) (inr y) = one_file (bytes_eq file_n file_c) refl can a b x y
+  one_unread can a b (inr x) (inl y) = sym (one_file (bytes_eq file_n file_c) refl can b a y x)
+  one_unread can a b (inr x) (inr y) = x.0 ∙ sym y.0
+
+  fault_of : (a : Answer) → IsUnread a → Rose before.counts.faults after.counts.faults
+  fault_of a (inl x) = x.1
+  fault_of a (inr x) = x.1
+
+  pub one_of_all : AreLaws → CanRise after.counts → (a b : Answer) → (IsUnread a ⊎ IsQuiet a) → (IsUnread b ⊎ IsQuiet b) → a ≡ b
+  one_of_all laws can = one_of_two IsUnread IsQuiet (one_unread can) (λ a b x y. one_stage laws file_n file_c (bytes_in held file_n) (bytes_in held file_c) a b x.1 y.1) (λ a b x y. rose_or_stays _ _ (fault_of a x) (ap (λ (c : FaultCounts). c.faults) y.0) can.faults)
+
+-- An answer over two files that are held is to a file that could not be read, or is at one of the later stages.
+stage_of : (before after : FilesThen) (held : Holdings) (n c : List ℕ) (a : Answer) → before.known ≡ Some held → a ≢ Want → Answers before after n c a → IsUnread before after held n c a ⊎ IsQuiet before after held n c a
+stage_of before after held n c Usage known some why = absurd why
+stage_of before after held n c Want known some why = absurd (some refl)
+stage_of before after held n c (ReadFault file) known some why =
     elim why [
-      | inl first ↦ inl (ap TooLong first.0, of_held (λ h. longest_text < length (text_of h n)) before.told held told (subst (λ f. IfSome before.told (λ h. longest_text < length (text_of h f))) first.0 first.1))
-      | inr second ↦ inr (inl (ap TooLong second.0, of_held (λ h. length (text_of h n) ≤ longest_text) before.told held told second.1, of_held (λ h. longest_text < length (text_of h c)) before.told held told (subst (λ f. IfSome before.told (λ h. longest_text < length (text_of h f))) second.0 second.2)))
+      | inl first ↦ inl (inl (ap ReadFault first.0, first.1.fault, of_held (λ _. Rose (before.counts.reads n) (after.counts.reads n)) before.known held known first.1.failed_read))
+      | inr second ↦ inl (inr (ap ReadFault second.0, second.2.fault, of_held (λ h. length (bytes_in h n) ≤ longest_text) before.known held known second.1.fits, second.1.no_fault))
     ]
-stage_of before after held n c (NotPlain file) told calm some (nt, ct, texts, why) =
-    let en = of_held (λ h. nt ≡ text_of h n) before.told held told texts.netlist_is in
-    let ec = of_held (λ h. ct ≡ text_of h c) before.told held told texts.certificate_is in
+stage_of before after held n c (TooLong file) known some why =
+    elim why.1 [
+      | inl first ↦ inr (why.0, inl (ap TooLong first.0, of_held (λ h. longest_text < length (bytes_in h n)) before.known held known first.1))
+      | inr second ↦ inr (why.0, inr (inl (ap TooLong second.0, of_held (λ h. length (bytes_in h n) ≤ longest_text) before.known held known second.1, of_held (λ h. longest_text < length (bytes_in h c)) before.known held known second.2)))
+    ]
+stage_of before after held n c (NotPlain file) known some (none, (nt, ct, texts, why)) =
+    let en = of_held (λ h. nt ≡ bytes_in h n) before.known held known texts.netlist_is in
+    let ec = of_held (λ h. ct ≡ bytes_in h c) before.known held known texts.certificate_is in
     let short_n = subst (λ t. length t ≤ longest_text) en texts.netlist_fits in
     let short_c = subst (λ t. length t ≤ longest_text) ec texts.certificate_fits in
     elim why [
-      | inl first ↦ inr (inr (inl (ap NotPlain first.0, short_n, short_c, subst HasNoNetwork en first.1)))
-      | inr second ↦ inr (inr (inr (inl (
-        ap NotPlain second.0,
-        short_n,
-        short_c,
-        record {
-          names = second.1.0;
-          net = second.1.1;
-          network = subst (λ t. IsPlainNetlist t second.1.0 second.1.1) en second.1.2;
-          none = subst (λ t. HasNoLists t second.1.0) ec second.1.3;
-        },
-      ))))
+      | inl first ↦ inr (none, inr (inr (inl (ap NotPlain first.0, short_n, short_c, subst HasNoNetwork en first.1))))
+      | inr second ↦ inr (
+        none,
+        inr (inr (inr (inl (
+          ap NotPlain second.0,
+          short_n,
+          short_c,
+          record {
+            names = second.1.0;
+            net = second.1.1;
+            network = subst (λ t. IsPlainNetlist t second.1.0 second.1.1) en second.1.2;
+            none = subst (λ t. HasNoLists t second.1.0) ec second.1.3;
+          },
+        )))),
+      )
     ]
-stage_of before after held n c (Certified nodes) told calm some (nt, ct, texts, (names, net, high, low, stand, holds, count)) =
-    let en = of_held (λ h. nt ≡ text_of h n) before.told held told texts.netlist_is in
-    let ec = of_held (λ h. ct ≡ text_of h c) before.told held told texts.certificate_is in
-    inr (inr (inr (inr (inl (
-      record { names = names; net = net; high = high; low = low; stand = subst (λ t. StandFor (text_of held n) t names net high low) ec (subst (λ t. StandFor t ct names net high low) en stand) },
-      ap Certified count,
-      subst (λ t. length t ≤ longest_text) en texts.netlist_fits,
-      subst (λ t. length t ≤ longest_text) ec texts.certificate_fits,
-      holds,
-    )))))
-stage_of before after held n c (NotCertified node side found) told calm some (nt, ct, texts, (names, net, high, low, stand, (fails, first, name, side_is, found_is))) =
-    let en = of_held (λ h. nt ≡ text_of h n) before.told held told texts.netlist_is in
-    let ec = of_held (λ h. ct ≡ text_of h c) before.told held told texts.certificate_is in
-    inr (inr (inr (inr (inr (
-      record { names = names; net = net; high = high; low = low; stand = subst (λ t. StandFor (text_of held n) t names net high low) ec (subst (λ t. StandFor t ct names net high low) en stand) },
-      fails,
-      node,
-      ap (λ (x : Side). NotCertified node x found) side_is ∙ ap (λ (z : ℤ). NotCertified node fails.side z) found_is,
-      subst (λ t. length t ≤ longest_text) en texts.netlist_fits,
-      subst (λ t. length t ≤ longest_text) ec texts.certificate_fits,
-      first,
-      name,
-    )))))
+stage_of before after held n c (Certified nodes) known some (none, (nt, ct, texts, (names, net, high, low, stand, holds, count))) =
+    let en = of_held (λ h. nt ≡ bytes_in h n) before.known held known texts.netlist_is in
+    let ec = of_held (λ h. ct ≡ bytes_in h c) before.known held known texts.certificate_is in
+    inr (
+      none,
+      inr (inr (inr (inr (inl (
+        record { names = names; net = net; high = high; low = low; stand = subst (λ t. StandFor (bytes_in held n) t names net high low) ec (subst (λ t. StandFor t ct names net high low) en stand) },
+        ap Certified count,
+        subst (λ t. length t ≤ longest_text) en texts.netlist_fits,
+        subst (λ t. length t ≤ longest_text) ec texts.certificate_fits,
+        holds,
+      ))))),
+    )
+stage_of before after held n c (NotCertified node side found) known some (none, (nt, ct, texts, (names, net, high, low, stand, (fails, first, name, side_is, found_is)))) =
+    let en = of_held (λ h. nt ≡ bytes_in h n) before.known held known texts.netlist_is in
+    let ec = of_held (λ h. ct ≡ bytes_in h c) before.known held known texts.certificate_is in
+    inr (
+      none,
+      inr (inr (inr (inr (inr (
+        record { names = names; net = net; high = high; low = low; stand = subst (λ t. StandFor (bytes_in held n) t names net high low) ec (subst (λ t. StandFor t ct names net high low) en stand) },
+        fails,
+        node,
+        ap (λ (x : Side). NotCertified node x found) side_is ∙ ap (λ (z : ℤ). NotCertified node fails.side z) found_is,
+        subst (λ t. length t ≤ longest_text) en texts.netlist_fits,
+        subst (λ t. length t ≤ longest_text) ec texts.certificate_fits,
+        first,
+        name,
+      ))))),
+    )
 
--- of the answers other than want of memory, one alone has its cause
-pub one_answer : AreLaws → (words : List (List ℕ)) (before after : FilesThen) (held : Holdings) (a b : Answer) → before.told ≡ Some held → ¬ Rose before.faults after.faults → IsCause words before after a → IsCause words before after b → a ≢ Want → b ≢ Want → a ≡ b
-one_answer laws words before after held a b told calm x y some_a some_b = one_of_two Used Over (λ p q e f. e.0 ∙ sym f.0) one_over (λ p q e f. e.1 f.1.0 f.1.1 f.1.2) a b (settled a some_a x) (settled b some_b y)
+-- Of the answers other than want of memory, one alone has its cause.
+pub one_answer : AreLaws → (words : List (List ℕ)) (before after : FilesThen) (held : Holdings) (a b : Answer) → before.known ≡ Some held → CanRise after.counts → IsCause words before after a → IsCause words before after b → a ≢ Want → b ≢ Want → a ≡ b
+one_answer laws words before after held a b known can x y some_a some_b = one_of_two Used Over (λ p q e f. e.0 ∙ sym f.0) one_over (λ p q e f. e.1 f.1.0 f.1.1 f.1.2) a b (settled a some_a x) (settled b some_b y)
   where
     Used : Answer → Type 0
     Used p = (p ≡ Usage) × IsUsage words
@@ -191,11 +246,11 @@ one_answer laws words before after held a b told calm x y some_a some_b = one_of
     Over p = (p ≢ Want) × ((netlist : List ℕ) × (certificate : List ℕ) × IsCheck words netlist certificate × Answers before after netlist certificate p)
 
     settled : (p : Answer) → p ≢ Want → IsCause words before after p → Used p ⊎ Over p
-    settled p some cause = elim cause [ inl free ↦ elim free [ inl want ↦ absurd (some want) | inr used ↦ inl used ] | inr over ↦ inr (some, over) ]
+    settled p some cause = elim cause [ inl free ↦ elim free [ inl want ↦ absurd (some want) | inr used ↦ inl (used.0, used.1) ] | inr over ↦ inr (some, over) ]
 
     one_over : (p q : Answer) → Over p → Over q → p ≡ q
     one_over p q e f =
         let n = one_netlist words f.1.0 f.1.1 e.1.0 e.1.1 f.1.2 e.1.2 in
         let c = one_certificate_file words f.1.0 f.1.1 e.1.0 e.1.1 f.1.2 e.1.2 in
         let g : Answers before after e.1.0 e.1.1 q = subst (λ x. Answers before after e.1.0 x q) c (subst (λ x. Answers before after x f.1.1 q) n f.1.3) in
-        one_stage laws e.1.0 e.1.1 (text_of held e.1.0) (text_of held e.1.1) p q (stage_of before after held e.1.0 e.1.1 p told calm e.0 e.1.3) (stage_of before after held e.1.0 e.1.1 q told calm f.0 g)
+        one_of_all before after held e.1.0 e.1.1 laws can p q (stage_of before after held e.1.0 e.1.1 p known e.0 e.1.3) (stage_of before after held e.1.0 e.1.1 q known f.0 g)

@@ -10,22 +10,22 @@ use Rattle.pdn_signoff.specs.declared.answer.Answer.{Answer}
 use Rattle.pdn_signoff.specs.declared.answer.Answer.TheVariants.{Want}
 use Rattle.pdn_signoff.specs.Check.{Judges}
 
--- want of memory always has its cause
+-- Want of memory always has its cause.
 pub judged_want : (netlist certificate netlist_text certificate_text : List ℕ) (a : Answer) → a ≡ Want → Judges netlist certificate netlist_text certificate_text a
 judged_want netlist certificate netlist_text certificate_text a is = subst (Judges netlist certificate netlist_text certificate_text) (sym is) tt
 
--- an answer is judged so, or memory ran out
+-- An answer is judged so, or memory ran out.
 pub judged_or_want : (netlist certificate netlist_text certificate_text : List ℕ) (a b : Answer) → (a ≡ Want) ⊎ (a ≡ b) → Judges netlist certificate netlist_text certificate_text b → Judges netlist certificate netlist_text certificate_text a
 judged_or_want netlist certificate netlist_text certificate_text a b (inl want) cause = judged_want netlist certificate netlist_text certificate_text a want
 judged_or_want netlist certificate netlist_text certificate_text a b (inr is) cause = subst (Judges netlist certificate netlist_text certificate_text) (sym is) cause
 
--- the end of a resistor is a node
+-- The end of a resistor is a node.
 flow_node : (net : Network) (rule : FlowRule) (x : ℕ → ℤ) (i : ℕ) (z : ℤ) → IsNetwork net → IsFlowFrom net rule x i z → i < net.nodes
 flow_node net rule x i z network flow =
     let d : Resistor = record { a = 0; b = 0; ohms = pos 1 } in
     subst (λ n. n < net.nodes) (flow.2 d).0 (network.each_resistor flow.0 d flow.1).a_is_node
 
--- a test that fails names a node
+-- A test that fails names a node.
 pub failing_node : (net : Network) (high low : ℕ → ℤ) (i : ℕ) (side : Side) (z : ℤ) → IsNetwork net → IsFailing net high low i side z → i < net.nodes
 failing_node net high low i HighValue z network fails = fails.0
 failing_node net high low i LowValue z network fails = fails.0

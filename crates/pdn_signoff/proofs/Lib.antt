@@ -1,3 +1,4 @@
 mod Causes
 mod Exclude
 mod Judged
+mod Unread

@@ -6,7 +6,7 @@ use Rattle.bound_check.specs.declared.fails.Side.TheVariants.{HighValue, LowValu
 use Rattle.pdn_signoff.specs.declared.answer.Answer.{Answer}
 use Rattle.pdn_signoff.specs.declared.answer.Answer.TheVariants.{Usage, Want, ReadFault, TooLong, NotPlain, Certified, NotCertified}
 
--- the word for the test of a certificate that fails
+-- The word for the test of a certificate that fails.
 abbrev pub side_word : Side → List ℕ
 side_word HighValue = codes "HighValue"
 side_word LowValue = codes "LowValue"
@@ -15,7 +15,7 @@ side_word LowFlow = codes "LowFlow"
 side_word High = codes "High"
 side_word Low = codes "Low"
 
--- the exit status
+-- The exit status.
 abbrev pub status_of : Answer → ℕ
 status_of Usage = 2
 status_of Want = 10
@@ -25,7 +25,7 @@ status_of (NotPlain file) = 4
 status_of (Certified nodes) = 0
 status_of (NotCertified node side found) = 9
 
--- the line on standard output, without its line feed
+-- The line on standard output, without its line feed.
 abbrev pub words_of : Answer → List ℕ
 words_of Usage = codes "pdn: Usage"
 words_of Want = codes "pdn: Want"
@@ -36,6 +36,6 @@ words_of (Certified nodes) = codes "certified " ++ decimal nodes ++ codes " node
 words_of (NotCertified node side found) =
     codes "pdn: NotCertified " ++ node ++ codes " " ++ side_word side ++ codes " " ++ signed_decimal found
 
--- the line with its line feed
+-- The line with its line feed.
 abbrev pub line_of : Answer → List ℕ
 line_of answer = words_of answer ++ codes "\n"

@@ -1,3 +1,5 @@
-pub mod Words
 pub mod Answer
 pub mod Check
+pub mod Command
+pub mod Words
+pub mod inside

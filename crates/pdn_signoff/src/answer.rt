@@ -21,9 +21,10 @@ pub enum Answer {
     TooLong(Name),
     /// The text of the file is not plain.
     NotPlain(Name),
-    /// The test of the certificate holds, on a network of so many nodes.
+    /// The test of the certificate holds, on a network of this many nodes.
     Certified(u32),
-    /// The first failing test of the certificate: the node's name, the side, and the number found there (yV for a value, fA for a flow or a sum).
+    /// The first failing test of the certificate: the node's name, the side, and the number found there (yV for a value,
+    /// fA for a flow or a sum).
     NotCertified(Name, Side, i128),
 }
 
@@ -70,7 +71,7 @@ fn file_line(alloc: Global, before: &[u8], file: &[u8], after: &[u8]) -> Result<
     Ok(line)
 }
 
-/// The line of a certificate that holds, on a network of so many nodes.
+/// The line of a certificate that holds, on a network of this many nodes.
 fn certified_line(alloc: Global, nodes: u32) -> Result<Vec<u8>, AllocError>
     ensures { IfOk result (λ line. line.items ≡ codes "certified " ++ decimal nodes ++ codes " nodes\n") }
 {
@@ -104,7 +105,9 @@ fn not_certified_line(
     side: Side,
     found: i128,
 ) -> Result<Vec<u8>, AllocError>
-    ensures { IfOk result (λ line. line.items ≡ codes "pdn: NotCertified " ++ node.now ++ codes " " ++ side_word side ++ codes " " ++ signed_decimal found ++ codes "\n") }
+    ensures { IfOk result (λ line. line.items ≡
+        codes "pdn: NotCertified " ++ node.now ++ codes " " ++ side_word side ++ codes " "
+        ++ signed_decimal found ++ codes "\n") }
 {
     let mut buffer = Buffer::new();
     let mut line = Vec::from_slice(alloc, b"pdn: NotCertified ")?;

@@ -1,27 +1,24 @@
 //! The command `check`: two files are read, and their texts judged.
 ghost use Rattle.std.specs.Prelude.{◌≡◌, ◌<◌, ◌⊎◌, ℕ, List, Some, length, map, slice_get};
-ghost use Rattle.outside.specs.Counts.{NoneFalls};
 ghost use Rattle.plain_netlist.specs.Netlist.{IsPlainNetlist};
-ghost use Rattle.pdn_signoff.specs.Check.{Answers, Judges, unread_answer};
+ghost use Rattle.pdn_signoff.specs.Check.{Answers, Judges};
+ghost use Rattle.pdn_signoff.specs.inside.Check.{unread_answer};
 
 use crate::answer::Answer;
 use bound_check::{Fails, is_certificate};
 use grid_net::Net;
-use outside::{Files, Name, ReadError, read_whole};
+use outside::{Files, LONGEST_TEXT, Name, ReadError, read_whole};
 use plain_certificate::{PlainCertificateError, read_plain_certificate};
 use plain_netlist::{PlainNetlistError, one_network, read_plain_netlist};
 use std::alloc::Global;
 
-/// The most bytes that an input file may have.
-const LONGEST_TEXT: u64 = 1 << 28;
-
 /// Reads both files, the netlist first, and then judges their texts.
 pub fn check<F: Files>(alloc: Global, files: &mut F, netlist: &str, certificate: &str) -> Answer
     ensures answers { Answers
-        (record { told = F.told files.old; faults = F.faults files.old; failed_reads = F.failed_reads files.old })
-        (record { told = F.told files.new; faults = F.faults files.new; failed_reads = F.failed_reads files.new })
+        (record { known = F.known files.old; counts = F.counts files.old })
+        (record { known = F.known files.new; counts = F.counts files.new })
         netlist.now certificate.now result }
-    ensures kept { F.told files.new ≡ F.told files.old }
+    ensures kept { F.known files.new ≡ F.known files.old }
 {
     let netlist_text = match read_whole(alloc, files, netlist, LONGEST_TEXT) {
         Ok(text) => text,

@@ -4,9 +4,10 @@ ghost use Rattle.outside.specs.Counts.{Rose};
 ghost use Rattle.outside.specs.Files.{Holdings};
 ghost use Rattle.grid_net.specs.Network.{Network};
 ghost use Rattle.grid_net.specs.Certificate.{IsCertificate};
-ghost use Rattle.pdn_signoff.specs.Words.{IsUsage};
 ghost use Rattle.pdn_signoff.specs.declared.answer.Answer.TheVariants.{Want};
-ghost use Rattle.pdn_signoff.specs.Check.{FilesThen, IsCause, Ends, PrintEnds, IsPlainCheck, HasCertificate, IsBetween};
+ghost use Rattle.pdn_signoff.specs.Check.{FilesThen};
+ghost use Rattle.pdn_signoff.specs.Command.{IsCause, CanRise, Ends, PrintEnds, IsPlainCheck, HasCertificate, SolutionsLieBetween};
+ghost use Rattle.pdn_signoff.specs.Words.{IsUsage};
 
 use crate::answer::Answer;
 use crate::check::check;
@@ -25,6 +26,9 @@ const WANT: u8 = 10;
 
 /// Runs the command that the words name, over the files, prints its one line to `out` and answers the exit status.
 ///
+/// The order of the work is: the words, the netlist is read, the certificate is read, the netlist's text, the
+/// certificate's text, the test. What comes later is answered only where nothing earlier is refused.
+///
 /// | Status | Line | When |
 /// |---|---|---|
 /// | 0 | `certified <n> nodes` | the certificate holds on the netlist |
@@ -39,32 +43,37 @@ pub fn run<F: Files, O: Sink>(alloc: Global, words: &Argv, files: &mut F, out: &
     // The run comes to an answer that has its cause, and ends with it.
     ensures answer { (answer : Answer)
         × IsCause words.now
-        (record { told = F.told files.old; faults = F.faults files.old; failed_reads = F.failed_reads files.old })
-        (record { told = F.told files.new; faults = F.faults files.new; failed_reads = F.failed_reads files.new }) answer
+        (record { known = F.known files.old; counts = F.counts files.old })
+        (record { known = F.known files.new; counts = F.counts files.new }) answer
         × Ends result
-        (record { told = O.told out.old; faults = O.faults out.old })
-        (record { told = O.told out.new; faults = O.faults out.new }) answer }
+        (record { known = O.known out.old; faults = O.faults out.old })
+        (record { known = O.known out.new; faults = O.faults out.new }) answer }
 
     // No file changes.
-    ensures kept { F.told files.new ≡ F.told files.old }
+    ensures kept { F.known files.new ≡ F.known files.old }
+
+    // A run ends with 3 or 10, or no call on the files or the sink failed.
+    ensures calm { result ≢ 3 → result ≢ 10
+        → (F.counts files.new ≡ F.counts files.old) × (O.faults out.new ≡ O.faults out.old) }
 
     // What is refused as usage is that, and what is usage is refused.
     ensures usage { result ≡ 2 → IsUsage words.now }
     ensures refused { IsUsage words.now → (result ≡ 2) ⊎ ((result ≡ 3) ⊎ (result ≡ 10)) }
 
-    // The status 0 says that the certificate holds on the netlist.
-    ensures certified { result ≡ 0 → IfSome (F.told files.old) (λ held. HasCertificate words.now held) }
+    // The status 0 says that the certificate holds on the netlist, where it is known what the files hold.
+    ensures certified { result ≡ 0 → IfSome (F.known files.old) (λ held. HasCertificate words.now held) }
 
-    // Plain texts are judged, where no fault comes and memory lasts: 0 where the certificate holds, 9 where it does not.
+    // Plain texts are judged, where no call fails and memory lasts: 0 where the certificate holds, 9 where it does not.
     ensures judged { (held : Holdings) (names : List (List ℕ)) (net : Network) (high low : List ℤ)
-        → F.told files.old ≡ Some held → IsPlainCheck words.now held names net high low
-        → ¬ Rose (F.faults files.old) (F.faults files.new) → ¬ Rose (O.faults out.old) (O.faults out.new)
+        → F.known files.old ≡ Some held → IsPlainCheck words.now held names net high low
+        → ¬ Rose (F.counts files.old).faults (F.counts files.new).faults → ¬ Rose (O.faults out.old) (O.faults out.new)
         → ((result ≡ 0) × IsCertificate net high low) ⊎ (((result ≡ 9) × ¬ IsCertificate net high low) ⊎ (result ≡ 10)) }
 
-    // After the status 0 every solution of the netlist lies between the certificate's two lists, at each node.
+    // After the status 0 every solution of the netlist lies between the certificate's two lists, at each node, where it
+    // is known what the files hold.
     ensures bounded { (held : Holdings) (names : List (List ℕ)) (net : Network) (high low : List ℤ)
-        → F.told files.old ≡ Some held → IsPlainCheck words.now held names net high low → result ≡ 0
-        → IsBetween net high low }
+        → F.known files.old ≡ Some held → IsPlainCheck words.now held names net high low → result ≡ 0
+        → SolutionsLieBetween net high low }
 {
     one_network();
     one_certificate();
@@ -77,12 +86,12 @@ pub fn run<F: Files, O: Sink>(alloc: Global, words: &Argv, files: &mut F, out: &
 fn run_command<F: Files, O: Sink>(alloc: Global, words: &Argv, files: &mut F, out: &mut O) -> u8
     ensures answer { (answer : Answer)
         × IsCause words.now
-        (record { told = F.told files.old; faults = F.faults files.old; failed_reads = F.failed_reads files.old })
-        (record { told = F.told files.new; faults = F.faults files.new; failed_reads = F.failed_reads files.new }) answer
+        (record { known = F.known files.old; counts = F.counts files.old })
+        (record { known = F.known files.new; counts = F.counts files.new }) answer
         × Ends result
-        (record { told = O.told out.old; faults = O.faults out.old })
-        (record { told = O.told out.new; faults = O.faults out.new }) answer }
-    ensures kept { F.told files.new ≡ F.told files.old }
+        (record { known = O.known out.old; faults = O.faults out.old })
+        (record { known = O.known out.new; faults = O.faults out.new }) answer }
+    ensures kept { F.known files.new ≡ F.known files.old }
 {
     let answer = answer_of(alloc, words, files);
     tell(alloc, &answer, out)
@@ -91,9 +100,9 @@ fn run_command<F: Files, O: Sink>(alloc: Global, words: &Argv, files: &mut F, ou
 /// The answer to the words.
 fn answer_of<F: Files>(alloc: Global, words: &Argv, files: &mut F) -> Answer
     ensures cause { IsCause words.now
-        (record { told = F.told files.old; faults = F.faults files.old; failed_reads = F.failed_reads files.old })
-        (record { told = F.told files.new; faults = F.faults files.new; failed_reads = F.failed_reads files.new }) result }
-    ensures kept { F.told files.new ≡ F.told files.old }
+        (record { known = F.known files.old; counts = F.counts files.old })
+        (record { known = F.known files.new; counts = F.counts files.new }) result }
+    ensures kept { F.known files.new ≡ F.known files.old }
 {
     match words::read(alloc, words) {
         Ok(
@@ -110,11 +119,11 @@ fn answer_of<F: Files>(alloc: Global, words: &Argv, files: &mut F) -> Answer
 /// Prints the line of the answer, or, where there is no memory for it, that of want of memory. Answers the exit status.
 fn tell<O: Sink>(alloc: Global, answer: &Answer, out: &mut O) -> u8
     ensures { Ends result
-        (record { told = O.told out.old; faults = O.faults out.old })
-        (record { told = O.told out.new; faults = O.faults out.new }) answer.now
+        (record { known = O.known out.old; faults = O.faults out.old })
+        (record { known = O.known out.new; faults = O.faults out.new }) answer.now
         ⊎ Ends result
-        (record { told = O.told out.old; faults = O.faults out.old })
-        (record { told = O.told out.new; faults = O.faults out.new }) Answer.Want }
+        (record { known = O.known out.old; faults = O.faults out.old })
+        (record { known = O.known out.new; faults = O.faults out.new }) Answer.Want }
 {
     match answer.line(alloc) {
         Ok(line) => print(out, &line, answer.status()),
@@ -125,8 +134,8 @@ fn tell<O: Sink>(alloc: Global, answer: &Answer, out: &mut O) -> u8
 /// Writes the line, and answers this status, or that of a line that was not written.
 fn print<O: Sink>(out: &mut O, line: &[u8], status: u8) -> u8
     ensures { PrintEnds result status line.now
-        (record { told = O.told out.old; faults = O.faults out.old })
-        (record { told = O.told out.new; faults = O.faults out.new }) }
+        (record { known = O.known out.old; faults = O.faults out.old })
+        (record { known = O.known out.new; faults = O.faults out.new }) }
 {
     match send(out, line) {
         Ok(()) => status,
@@ -135,11 +144,12 @@ fn print<O: Sink>(out: &mut O, line: &[u8], status: u8) -> u8
     }
 }
 
-/// Where the files tell what they hold and no read failed, one answer alone, want of memory aside, has its cause:
-/// so each of them comes exactly where its cause holds.
+/// Where it is known what the files hold and no count stands at its last value, one answer alone, want of memory aside,
+/// has its cause: so each of them comes exactly where its cause holds.
 pub fn one_answer_has_its_cause()
-    ensures { (words : List (List ℕ)) (before after : FilesThen) (held : Holdings) (a b : Answer) → before.told ≡ Some held
-        → ¬ Rose before.faults after.faults → IsCause words before after a → IsCause words before after b
+    ensures { (words : List (List ℕ)) (before after : FilesThen) (held : Holdings) (a b : Answer)
+        → before.known ≡ Some held → CanRise after.counts
+        → IsCause words before after a → IsCause words before after b
         → a ≢ Want → b ≢ Want → a ≡ b }
 {
     one_network();

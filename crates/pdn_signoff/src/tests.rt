@@ -1,6 +1,9 @@
 //! Runs of the top call over files and a sink in memory.
+ghost use Rattle.std.specs.Prelude.{None};
+ghost use Rattle.outside.specs.Calls.{counts_of};
+
 use crate::run;
-use outside::{Argv, MemFiles, MemSink, Name};
+use outside::{Argv, Files, MemFiles, MemSink, Name, Refusal};
 use std::alloc::{AllocError, Global};
 use std::process::Abort;
 use std::test::Fail;
@@ -37,8 +40,35 @@ fn files(
     Ok(files)
 }
 
-/// What a run over two files answers and prints, where this call on the named file and this call on the sink fail.
-fn told(
+/// Files in memory, and beside them the file `endless`, which never ends.
+#[derive(Drop)]
+struct WithEndless {
+    files: MemFiles,
+}
+
+impl Files for WithEndless {
+    ghost known = { λ _. None };
+
+    ghost counts = { λ files. counts_of files.files.calls };
+
+    fn read_at(&mut self, name: &str, at: u64, into: &mut [u8]) -> Result<usize, Refusal> {
+        if name == "endless" {
+            return Ok(into.len());
+        }
+        self.files.read_at(name, at, into)
+    }
+
+    fn create(&mut self, name: &str) -> Result<(), Refusal> {
+        self.files.create(name)
+    }
+
+    fn append(&mut self, name: &str, piece: &[u8]) -> Result<usize, Refusal> {
+        self.files.append(name, piece)
+    }
+}
+
+/// What a run over these files answers and prints, where this call on the named file and this call on the sink fail.
+fn ends(
     rt: &(impl Abort + AllocGlobal),
     words: &str,
     files: Vec<(Name, Vec<u8>)>,
@@ -49,7 +79,9 @@ fn told(
 ) -> Result<(), AllocError> {
     let alloc = rt.alloc();
     let failing = vec![in alloc; (Name::new(alloc, failing.0.as_bytes())?, failing.1)]?;
-    let mut files = MemFiles::new(alloc, files, failing)?;
+    let mut files = WithEndless {
+        files: MemFiles::new(alloc, files, failing)?,
+    };
     let mut out = MemSink::new(alloc, vec![in alloc; failing_write]?)?;
     let words = argv(alloc, words)?;
     let found = run(alloc, &words, &mut files, &mut out);
@@ -66,7 +98,7 @@ fn judged(
     status: u8,
     line: &[u8],
 ) -> Result<(), AllocError> {
-    told(
+    ends(
         rt,
         WORDS,
         files(rt.alloc(), netlist, certificate)?,
@@ -86,7 +118,7 @@ fn failing(
     status: u8,
     line: &[u8],
 ) -> Result<(), AllocError> {
-    told(
+    ends(
         rt,
         WORDS,
         files(rt.alloc(), NETLIST, CERTIFICATE)?,
@@ -161,11 +193,13 @@ fn usage(rt: HostRuntime) -> Result<(), Fail> {
         "check|--certificate|cert|--netlist|net",
         "check|--netlist||--certificate|cert",
         "check|--netlist|net|--certificate|-",
+        "check|--netlist|n\net|--certificate|cert",
+        "check|--netlist|net|--certificate|cert\n",
         "check|--netlist|net|--certificate|cert|more",
         "Check|--netlist|net|--certificate|cert",
     ];
     for words in table {
-        told(
+        ends(
             &rt,
             words,
             files(rt.alloc(), NETLIST, CERTIFICATE)?,
@@ -180,7 +214,7 @@ fn usage(rt: HostRuntime) -> Result<(), Fail> {
 
 /// Each call on each file fails in turn, and each call on the sink.
 #[test]
-fn faults_are_told(rt: HostRuntime) -> Result<(), Fail> {
+fn faults_are_answered(rt: HostRuntime) -> Result<(), Fail> {
     failing(&rt, "net", 1, 0, 3, b"pdn: ReadFault net\n")?;
     failing(&rt, "net", 2, 0, 3, b"pdn: ReadFault net\n")?;
     failing(&rt, "net", 3, 0, 0, b"certified 2 nodes\n")?;
@@ -191,7 +225,7 @@ fn faults_are_told(rt: HostRuntime) -> Result<(), Fail> {
     failing(&rt, "net", 1, 1, 3, b"")?;
     failing(&rt, "", 0, 2, 0, b"certified 2 nodes\n")?;
     let words = "check|--netlist|nothing|--certificate|cert";
-    told(
+    ends(
         &rt,
         words,
         files(rt.alloc(), b"", b"")?,
@@ -200,6 +234,110 @@ fn faults_are_told(rt: HostRuntime) -> Result<(), Fail> {
         3,
         b"pdn: ReadFault nothing\n",
     )?;
+    Ok(())
+}
+
+/// Of two causes at once the one is answered that comes first in the order of the work.
+#[test]
+fn earlier_causes_come_first(rt: HostRuntime) -> Result<(), Fail> {
+    let table = [
+        // The words, and the netlist cannot be read or is too long.
+        (
+            "check|--netlist|net|--certificate",
+            "net",
+            2,
+            b"pdn: Usage\n".as_slice(),
+        ),
+        (
+            "check|--netlist|endless|--certificate",
+            "",
+            2,
+            b"pdn: Usage\n",
+        ),
+        // The netlist cannot be read, and the certificate cannot be read or is too long.
+        (
+            "check|--netlist|none|--certificate|cert",
+            "cert",
+            3,
+            b"pdn: ReadFault none\n",
+        ),
+        (
+            "check|--netlist|net|--certificate|endless",
+            "net",
+            3,
+            b"pdn: ReadFault net\n",
+        ),
+        // The netlist is too long, and the certificate cannot be read or is too long.
+        (
+            "check|--netlist|endless|--certificate|cert",
+            "cert",
+            4,
+            b"pdn: TooLong endless\n",
+        ),
+        (
+            "check|--netlist|endless|--certificate|none",
+            "",
+            4,
+            b"pdn: TooLong endless\n",
+        ),
+        (
+            "check|--netlist|endless|--certificate|endless",
+            "",
+            4,
+            b"pdn: TooLong endless\n",
+        ),
+        // The certificate cannot be read or is too long, and the netlist's text is not plain.
+        (
+            "check|--netlist|cert|--certificate|net",
+            "net",
+            3,
+            b"pdn: ReadFault net\n",
+        ),
+        (
+            "check|--netlist|cert|--certificate|endless",
+            "",
+            4,
+            b"pdn: TooLong endless\n",
+        ),
+        // Neither text is plain.
+        (
+            "check|--netlist|cert|--certificate|net",
+            "",
+            4,
+            b"pdn: cert: NotPlain\n",
+        ),
+    ];
+    for (words, failing, status, line) in table {
+        ends(
+            &rt,
+            words,
+            files(rt.alloc(), NETLIST, CERTIFICATE)?,
+            (failing, 1),
+            0,
+            status,
+            line,
+        )?;
+    }
+    Ok(())
+}
+
+/// A file of more than 2^28 bytes is refused, whichever of the two it is.
+#[test]
+fn too_long_is_answered(rt: HostRuntime) -> Result<(), Fail> {
+    for words in [
+        "check|--netlist|endless|--certificate|cert",
+        "check|--netlist|net|--certificate|endless",
+    ] {
+        ends(
+            &rt,
+            words,
+            files(rt.alloc(), NETLIST, CERTIFICATE)?,
+            ("", 0),
+            0,
+            4,
+            b"pdn: TooLong endless\n",
+        )?;
+    }
     Ok(())
 }
 

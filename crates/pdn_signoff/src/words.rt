@@ -1,6 +1,6 @@
 //! The words of the command line.
 ghost use Rattle.std.specs.Prelude.{◌≡◌, ◌↔◌, ℕ, List, [], ◌∷◌, Err, IfOk, IfErr, IsTrue};
-ghost use Rattle.pdn_signoff.specs.Words.{IsValue, IsCheck, IsCommand, IsUsage};
+ghost use Rattle.pdn_signoff.specs.Words.{IsOptionValue, IsCheck, IsCommand, IsUsage};
 
 use crate::file_name::FileName;
 use outside::Argv;
@@ -28,19 +28,21 @@ pub enum WordsError {
     Want,
 }
 
-/// Whether the word may be the value of an option: it is not empty and does not begin with `-`.
-fn is_value(word: &str) -> bool
-    ensures { IsTrue result ↔ IsValue word.now }
+/// Whether the word may be the value of an option: it is not empty, does not begin with `-` and has no line feed in it.
+fn is_option_value(word: &str) -> bool
+    ensures { IsTrue result ↔ IsOptionValue word.now }
 {
-    match word.as_bytes() {
+    let bytes = word.as_bytes();
+    match bytes {
         [] => false,
-        [first, ..] => *first != b'-',
+        [first, ..] => *first != b'-' && !bytes.contains(&b'\n'),
     }
 }
 
 /// Whether five words are those of `check`, with its two options in their order.
 fn is_check(name: &str, first: &str, netlist: &str, second: &str, certificate: &str) -> bool
-    ensures { IsTrue result ↔ IsCheck (name.now ∷ first.now ∷ netlist.now ∷ second.now ∷ certificate.now ∷ []) netlist.now certificate.now }
+    ensures { IsTrue result
+        ↔ IsCheck (name.now ∷ first.now ∷ netlist.now ∷ second.now ∷ certificate.now ∷ []) netlist.now certificate.now }
 {
     if name != "check" {
         return false;
@@ -51,16 +53,16 @@ fn is_check(name: &str, first: &str, netlist: &str, second: &str, certificate: &
     if second != "--certificate" {
         return false;
     }
-    if !is_value(netlist) {
+    if !is_option_value(netlist) {
         return false;
     }
-    is_value(certificate)
+    is_option_value(certificate)
 }
 
-/// Reads the words behind the program's name.
+/// Reads the words after the program's name.
 ///
 /// `check --netlist F --certificate G` is the one command. Its options stand in this order, each followed by its value,
-/// which is not empty and does not begin with `-`.
+/// which is not empty, does not begin with `-` and has no line feed in it.
 ///
 /// `Usage` comes exactly where the words are those of no command.
 pub fn read(alloc: Global, words: &Argv) -> Result<Command, WordsError>

@@ -1,4 +1,4 @@
-use Rattle.std.proofs.Common.{◌≡◌, ℕ, List, Bor, Err, inl, map, refl, ap, sym, subst}
+use Rattle.std.proofs.Common.{ℕ, List, Bor, Err, inl, map, refl, ap, sym, subst}
 use Rattle.plain_netlist.specs.Netlist.{IsPlainNetlist}
 use Rattle.pdn_signoff.specs.declared.answer.Answer.TheVariants.{NotPlain}
 use Rattle.pdn_signoff.proofs.Judged.{judged_or_want}

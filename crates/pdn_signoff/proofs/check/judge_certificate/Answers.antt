@@ -1,7 +1,7 @@
-use Rattle.std.proofs.Common.{◌≡◌, ◌<◌, ℕ, ℤ, List, Bor, Err, inl, inr, length, map, refl, ap, sym, subst, ◌∙◌}
+use Rattle.std.proofs.Common.{◌<◌, ℕ, ℤ, List, Bor, Err, inl, inr, map, refl, ap, sym, subst}
 use Rattle.grid_net.specs.Network.{entry_of}
 use Rattle.plain_certificate.specs.Certificate.{IsPlainCertificate}
-use Rattle.pdn_signoff.specs.declared.answer.Answer.TheVariants.{NotPlain, NotCertified}
+use Rattle.pdn_signoff.specs.declared.answer.Answer.TheVariants.{NotPlain}
 use Rattle.pdn_signoff.specs.Check.{Judges}
 use Rattle.pdn_signoff.proofs.Judged.{judged_want, judged_or_want, failing_node}
 use Rattle.pdn_signoff.proofs.check.judge_certificate.Goals as goal

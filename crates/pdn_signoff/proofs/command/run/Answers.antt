@@ -1,6 +1,8 @@
-use Rattle.std.proofs.Common.{◌≡◌}
-use Rattle.pdn_signoff.proofs.Causes.{AreLaws, IsPrinciple, usage, refused, certified, judged, bounded}
+use Rattle.pdn_signoff.proofs.Causes.{AreLaws, IsPrinciple, calm, usage, refused, certified, judged, bounded}
 use Rattle.pdn_signoff.proofs.command.run.Goals as goal
+
+pub returns-clause-calm : goal.returns-clause-calm
+returns-clause-calm g c = calm _ _ _ _ _ _ c.run_command.ensures.answer
 
 pub returns-clause-usage : goal.returns-clause-usage
 returns-clause-usage g c = usage _ _ _ _ _ _ c.run_command.ensures.answer

@@ -1,4 +1,4 @@
-use Rattle.std.proofs.Common.{◌≡◌, ◌⊎◌, inl, inr, refl}
+use Rattle.std.proofs.Common.{inl, inr, refl}
 use Rattle.pdn_signoff.specs.declared.answer.Answer.TheVariants.{Want}
 use Rattle.pdn_signoff.proofs.command.run_command.Goals as goal
 

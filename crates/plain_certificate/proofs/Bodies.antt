@@ -3,11 +3,11 @@ use Rattle.std.proofs.Common.{◌≡◌, ℕ, zero, suc, ◌<◌, ℤ, pos, List
 use Rattle.std.specs.Prelude.{codes}
 use Rattle.std.specs.List.{concat}
 use Rattle.std.proofs.lemmas.List.{append_assoc, append_cancel_left}
-use Rattle.plain_certificate.specs.Certificate.{IsRow, IsWhite, IsPlainCertificate}
-use Rattle.plain_certificate.specs.Front.{IsRowThen, IsEnd}
+use Rattle.plain_certificate.specs.Certificate.{IsRow, IsWhiteByte, IsPlainCertificate}
+use Rattle.plain_certificate.specs.inside.Front.{IsRowThen, IsEnd}
 use Rattle.plain_certificate.proofs.Rows.{row_once}
 
--- the rows of the nodes, and then the end
+-- The rows of the nodes, and then the end.
 abbrev pub Body : List (List ℕ) → List ℤ → List ℤ → List ℕ → Type 0
 Body [] [] [] text = IsEnd text
 Body [] [] (l ∷ low) text = ⊥
@@ -16,7 +16,7 @@ Body (name ∷ names) [] low text = ⊥
 Body (name ∷ names) (h ∷ high) [] text = ⊥
 Body (name ∷ names) (h ∷ high) (l ∷ low) text = (rest : List ℕ) × IsRowThen name text h l rest × Body names high low rest
 
--- the same by whole lists
+-- The same by whole lists.
 pub record HasRows (text : List ℕ) (names : List (List ℕ)) (high low : List ℤ) : Type 0 where
   pub rows : List (List ℕ)
   pub white : List ℕ
@@ -25,7 +25,7 @@ pub record HasRows (text : List ℕ) (names : List (List ℕ)) (high low : List 
   pub high_count : length high ≡ length names
   pub low_count : length low ≡ length names
   pub each_row : (node : ℕ) → node < length names → IsRow (get_or names node []) (get_or high node (pos 0)) (get_or low node (pos 0)) (get_or rows node [])
-  pub all_white : All IsWhite white
+  pub all_white : All IsWhiteByte white
 
 pub rows_from_body : (names : List (List ℕ)) (high low : List ℤ) (text : List ℕ) → Body names high low text → HasRows text names high low
 rows_from_body [] [] [] text end = record {
@@ -67,7 +67,7 @@ rows_from_body (name ∷ names) (h ∷ high) (l ∷ low) text (rest, row, body) 
 pub body_from_rows : (names : List (List ℕ)) (high low : List ℤ) (rows : List (List ℕ)) (white text : List ℕ) → text ≡ concat rows ++ (codes "end" ++ white)
     → length rows ≡ length names → length high ≡ length names → length low ≡ length names
     → ((node : ℕ) → node < length names → IsRow (get_or names node []) (get_or high node (pos 0)) (get_or low node (pos 0)) (get_or rows node []))
-    → All IsWhite white → Body names high low text
+    → All IsWhiteByte white → Body names high low text
 body_from_rows [] [] [] [] white text is row_count high_count low_count each all = record { white = white; is = is; all = all }
 body_from_rows [] [] [] (row ∷ rows) white text is row_count high_count low_count each all = absurd (omega arith)
 body_from_rows [] [] (l ∷ low) rows white text is row_count high_count low_count each all = omega arith
@@ -85,7 +85,7 @@ body_from_rows (name ∷ names) (h ∷ high) (l ∷ low) (row ∷ rows) white te
 abbrev pub head_line : List ℕ
 head_line = codes "pdn certificate 1\n"
 
--- a certificate is the head line, and then rows and the end
+-- A certificate is the head line, and then rows and the end.
 pub certificate_from_body : (text rest : List ℕ) (names : List (List ℕ)) (high low : List ℤ) → text ≡ head_line ++ rest → Body names high low rest → IsPlainCertificate text names high low
 certificate_from_body text rest names high low is body =
     let r = rows_from_body names high low rest body in
@@ -113,7 +113,7 @@ body_from_certificate text names high low s = (
     regrouped : (a b c d : List ℕ) → ((a ++ b) ++ c) ++ d ≡ a ++ (b ++ (c ++ d))
     regrouped a b c d = simp append_assoc
 
--- rows and an end say one pair of lists only
+-- Rows and an end say one pair of lists only.
 pub body_once : (names : List (List ℕ)) (high low other_high other_low : List ℤ) (text : List ℕ) → Body names high low text → Body names other_high other_low text → (high ≡ other_high) × (low ≡ other_low)
 body_once [] [] [] [] [] text b d = (refl, refl)
 body_once [] [] [] [] (m ∷ ms) text b d = absurd d

@@ -2,15 +2,15 @@
 use Rattle.std.proofs.Common.{◌≡◌, ℕ, ℤ, List, [], ◌∷◌, ◌++◌, sym, ap, subst, ◌∙◌}
 use Rattle.std.proofs.lemmas.List.{append_assoc, append_cancel_left, append-nil}
 use Rattle.plain_certificate.specs.Certificate.{IsPlainCertificate}
-use Rattle.plain_certificate.specs.Front.{IsRowThen, IsEnd}
+use Rattle.plain_certificate.specs.inside.Front.{IsRowThen, IsEnd}
 use Rattle.plain_certificate.proofs.Rows.{row_once}
 use Rattle.plain_certificate.proofs.Bodies.{Body, head_line, certificate_from_body, body_from_certificate}
 
--- the voltages of these nodes and no others
+-- The voltages of these nodes and no others.
 abbrev pub Says : List ℤ → List ℤ → List (List ℕ) → List ℕ → List ℤ → List ℤ → Type 0
 Says high low left rest all_high all_low = (more_high more_low : List ℤ) × (all_high ≡ high ++ more_high) × (all_low ≡ low ++ more_low) × Body left more_high more_low rest
 
--- the certificates of the text are what is read, followed by what the rest says of the nodes that are left
+-- The certificates of the text are what is read, followed by what the rest says of the nodes that are left.
 pub record HasRead (text : List ℕ) (names : List (List ℕ)) (high low : List ℤ) (left : List (List ℕ)) (rest : List ℕ) : Type 0 where
   pub sound : (more_high more_low : List ℤ) → Body left more_high more_low rest → IsPlainCertificate text names (high ++ more_high) (low ++ more_low)
   pub complete : (all_high all_low : List ℤ) → IsPlainCertificate text names all_high all_low → Says high low left rest all_high all_low
@@ -58,7 +58,7 @@ read_row_more text names high low name left here h l rest before row = record { 
         let b = before.complete all_high all_low s in
         step all_high all_low b.0 b.1 b.2 b.3 b.4
 
--- where the text goes on with no row of the next node, it is no certificate
+-- Where the text goes on with no row of the next node, it is no certificate.
 pub no_row : (text : List ℕ) (names : List (List ℕ)) (high low : List ℤ) (name : List ℕ) (left : List (List ℕ)) (here : List ℕ) → HasRead text names high low (name ∷ left) here
     → ((h l : ℤ) (rest : List ℕ) → IsRowThen name here h l rest → ⊥) → (all_high all_low : List ℤ) → IsPlainCertificate text names all_high all_low → ⊥
 no_row text names high low name left here before none all_high all_low s =
@@ -69,7 +69,7 @@ no_row text names high low name left here before none all_high all_low s =
     by (k ∷ ks) [] body = body
     by (k ∷ ks) (m ∷ ms) (rest, row, body) = none k m rest row
 
--- where the end follows the last row, it is the certificate of what was read
+-- Where the end follows the last row, it is the certificate of what was read.
 pub read_end : (text : List ℕ) (names : List (List ℕ)) (high low : List ℤ) (rest : List ℕ) → HasRead text names high low [] rest → IsEnd rest → IsPlainCertificate text names high low
 read_end text names high low rest before end =
     subst (λ (h : List ℤ). IsPlainCertificate text names h low) (append-nil high)

@@ -4,10 +4,10 @@ use Rattle.std.specs.Prelude.{codes}
 use Rattle.std.specs.Int.{w128}
 use Rattle.std.proofs.lemmas.List.{append_assoc, append_cancel_left}
 use Rattle.plain_certificate.specs.declared.number.Number.{Number}
-use Rattle.plain_certificate.specs.Front.{BeginsWithDigit, IsNumberThen, IsVoltageThen, IsRowThen}
+use Rattle.plain_certificate.specs.inside.Front.{BeginsWithDigit, IsNumberThen, IsVoltageThen, IsRowThen}
 use Rattle.plain_certificate.proofs.Signs.{number_once, passed}
 
--- what stands behind a blank, as the reader answers it
+-- What stands behind a blank, as the reader answers it.
 pub answer_behind_blank : (text behind : List ℕ) (r : Option Number) → text ≡ codes " " ++ behind
     → MatchOption r ((value : ℤ) (rest : List ℕ) → IsNumberThen behind value rest → ⊥) (λ n. IsNumberThen behind n.value n.rest.now)
     → MatchOption r ((value : ℤ) (rest : List ℕ) → IsVoltageThen text value rest → ⊥) (λ n. IsVoltageThen text n.value n.rest.now)
@@ -17,14 +17,14 @@ answer_behind_blank text behind None is h = λ value rest s.
     h value rest (subst (λ (l : List ℕ). IsNumberThen l value rest) same s.number)
 answer_behind_blank text behind (Some n) is h = record { behind = behind; is = is; number = h }
 
--- a text begins with one voltage only
+-- A text begins with one voltage only.
 pub voltage_once : (text : List ℕ) (value other : ℤ) (rest left : List ℕ) → IsVoltageThen text value rest → IsVoltageThen text other left → (value ≡ other) × (rest ≡ left)
 voltage_once text value other rest left s t =
     let both : 32 ∷ t.behind ≡ 32 ∷ s.behind = sym t.is ∙ s.is in
     let same : t.behind ≡ s.behind = cc in
     number_once s.behind value other rest left s.number (subst (λ (l : List ℕ). IsNumberThen l other left) same t.number)
 
--- a row step by step
+-- A row step by step.
 pub record RowParts (name text : List ℕ) (high low : ℤ) (rest : List ℕ) : Type 0 where
   pub voltages : List ℕ
   pub middle : List ℕ
@@ -78,13 +78,13 @@ parts_from_row name text high low rest s =
       };
     }
 
--- a row as the code passes it on
+-- A row as the code passes it on.
 pub passed_row : (name text : List ℕ) (high low : ℤ) (rest : List ℕ) → IsRowThen name text high low rest → IsRowThen name text (to_z w128 (of_z w128 high)) (to_z w128 (of_z w128 low)) rest
 passed_row name text high low rest s =
     subst (λ (v : ℤ). IsRowThen name text v (to_z w128 (of_z w128 low)) rest) (passed high s.whole.high_within)
     (subst (λ (v : ℤ). IsRowThen name text high v rest) (passed low s.whole.low_within) s)
 
--- what the reader has read of a row is what each row that the text begins with has
+-- What the reader has read of a row is what each row that the text begins with has.
 pub same_voltages : (name text voltages : List ℕ) (high low : ℤ) (rest : List ℕ) → text ≡ name ++ voltages → (p : RowParts name text high low rest) → p.voltages ≡ voltages
 same_voltages name text voltages high low rest is p = append_cancel_left name p.voltages voltages (sym p.is ∙ is)
 
@@ -96,7 +96,7 @@ no_high name text voltages is none high low rest s =
     let p = parts_from_row name text high low rest s in
     none high p.middle (subst (λ (l : List ℕ). IsVoltageThen l high p.middle) (same_voltages name text voltages high low rest is p) p.high_is)
 
--- the low voltage of a row stands behind the high one that was read
+-- The low voltage of a row stands behind the high one that was read.
 low_behind : (name text voltages middle : List ℕ) (read : ℤ) → text ≡ name ++ voltages → IsVoltageThen voltages read middle → (high low : ℤ) (rest : List ℕ) → IsRowThen name text high low rest
     → (high ≡ read) × IsVoltageThen middle low (codes "\n" ++ rest)
 low_behind name text voltages middle read is first high low rest s =
@@ -116,7 +116,7 @@ no_line_feed name text voltages middle behind read second is first next none hig
     let there = (low_behind name text voltages middle read is first high low rest s).1 in
     none rest (sym (voltage_once middle low second (codes "\n" ++ rest) behind there next).1)
 
--- a text begins with one row of a name only
+-- A text begins with one row of a name only.
 pub row_once : (name text : List ℕ) (high low other_high other_low : ℤ) (rest left : List ℕ) → IsRowThen name text high low rest → IsRowThen name text other_high other_low left
     → (high ≡ other_high) × (low ≡ other_low) × (rest ≡ left)
 row_once name text high low other_high other_low rest left s t =

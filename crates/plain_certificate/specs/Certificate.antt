@@ -3,7 +3,7 @@ use Rattle.std.specs.Prelude.{◌≡◌, ℕ, ◌<◌, ◌⊎◌, ℤ, pos, List
 use Rattle.std.specs.List.{concat}
 use Rattle.plain_certificate.specs.Number.{IsWholeNumber, IsWithinLimit}
 
--- the row of a node: its name, its high and its low voltage in yoctovolts, with single blanks, and a line feed
+-- The row of a node: its name, its high and its low voltage in yoctovolts, with single blanks, and a line feed.
 pub record IsRow (name : List ℕ) (high low : ℤ) (row : List ℕ) : Type 0 where
   pub high_text : List ℕ
   pub low_text : List ℕ
@@ -13,11 +13,11 @@ pub record IsRow (name : List ℕ) (high low : ℤ) (row : List ℕ) : Type 0 wh
   pub high_within : IsWithinLimit high
   pub low_within : IsWithinLimit low
 
--- blank, tab, carriage return or line feed
-abbrev pub IsWhite : ℕ → Type 0
-IsWhite byte = (byte ≡ 32) ⊎ ((byte ≡ 9) ⊎ ((byte ≡ 13) ⊎ (byte ≡ 10)))
+-- Blank, tab, carriage return or line feed.
+abbrev pub IsWhiteByte : ℕ → Type 0
+IsWhiteByte byte = (byte ≡ 32) ⊎ ((byte ≡ 9) ⊎ ((byte ≡ 13) ⊎ (byte ≡ 10)))
 
--- the text is the head line, the rows of the nodes in the order of their names, the word `end`, and white space
+-- The text is the head line, the rows of the nodes in the order of their names, the word `end`, and white space.
 pub record IsPlainCertificate (text : List ℕ) (names : List (List ℕ)) (high low : List ℤ) : Type 0 where
   pub rows : List (List ℕ)
   pub white : List ℕ
@@ -27,4 +27,4 @@ pub record IsPlainCertificate (text : List ℕ) (names : List (List ℕ)) (high 
   pub low_count : length low ≡ length names
   pub each_row : (node : ℕ) → node < length names
       → IsRow (slice_index_or names node []) (slice_index_or high node (pos 0)) (slice_index_or low node (pos 0)) (slice_index_or rows node [])
-  pub all_white : All IsWhite white
+  pub all_white : All IsWhiteByte white

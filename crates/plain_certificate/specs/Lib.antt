@@ -1,3 +1,3 @@
-pub mod Number
 pub mod Certificate
-pub mod Front
+pub mod Number
+pub mod inside

@@ -1,8 +1,8 @@
 //! A whole number at the front of a text.
 ghost use Rattle.std.specs.Prelude.{◌≡◌, ℕ, ◌<◌, ◌≤◌, ℤ, List, length, take, drop, All, MatchOption};
 ghost use Rattle.std.specs.Char.{IsAsciiDigit};
-ghost use Rattle.plain_certificate.specs.Number.{decimal, limit};
-ghost use Rattle.plain_certificate.specs.Front.{BeginsWithDigit, IsDigitsThen, IsNumberThen};
+ghost use Rattle.plain_certificate.specs.Number.{digits_value, limit};
+ghost use Rattle.plain_certificate.specs.inside.Front.{BeginsWithDigit, IsDigitsThen, IsNumberThen};
 
 // The greatest magnitude, in yoctovolts.
 const LIMIT: u128 = 10_000_000_000_000_000_000_000_000_000_000_000_000;
@@ -23,9 +23,9 @@ pub(crate) struct Number<'a> {
 
 // All digits at the front of a text, or `None` where some of them write more than the limit already.
 fn leading_digits(text: &[u8]) -> Option<Digits>
-    ensures count { MatchOption result ((count : ℕ) × (All IsAsciiDigit (take count text.now)) × (limit < decimal (take count text.now)))
+    ensures count { MatchOption result ((count : ℕ) × (All IsAsciiDigit (take count text.now)) × (limit < digits_value (take count text.now)))
         (λ found. (found.count ≤ length text.now) × (All IsAsciiDigit (take found.count text.now)) × (¬ BeginsWithDigit (drop found.count text.now))) }
-    ensures number { MatchOption result Unit (λ found. (found.number ≡ decimal (take found.count text.now)) × (found.number ≤ limit)) }
+    ensures number { MatchOption result Unit (λ found. (found.number ≡ digits_value (take found.count text.now)) × (found.number ≤ limit)) }
 {
     let mut number = 0u128;
     for (count, byte) in text.iter().enumerate() {

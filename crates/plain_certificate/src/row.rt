@@ -1,6 +1,6 @@
 //! The row of a node, and the end of the text.
 ghost use Rattle.std.specs.Prelude.{ℕ, ℤ, ◌↔◌, List, IsTrue, MatchOption};
-ghost use Rattle.plain_certificate.specs.Front.{IsEnd, IsRowThen, IsVoltageThen};
+ghost use Rattle.plain_certificate.specs.inside.Front.{IsEnd, IsRowThen, IsVoltageThen};
 
 use crate::number::{Number, whole_number};
 

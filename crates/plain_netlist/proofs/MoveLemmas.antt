@@ -11,14 +11,14 @@ use Rattle.grid_net.specs.declared.part.Pad.{Pad as NetPad}
 use Rattle.grid_net.specs.Building.{PadsAgree}
 use Rattle.name_table.specs.ByteOrder.{IsBefore, IsInByteOrder}
 use Rattle.plain_netlist.specs.Card.{Card}
-use Rattle.plain_netlist.specs.Netlist.{nodes_of, second_nodes, named_nodes, source_node, source_nodes, node_number, resistor_of, pad_of, load_of, pads_of}
-use Rattle.plain_netlist.specs.Entries.{AreDistinct}
-use Rattle.plain_netlist.specs.Numbering.{moved_resistor, moved_pad, moved_load}
+use Rattle.plain_netlist.specs.Netlist.{nodes_of, second_nodes, named_nodes, source_node, source_nodes, node_number, resistor_of, pad_on, load_on, pads_of}
+use Rattle.name_table.specs.Numbering.{AreDistinct}
+use Rattle.plain_netlist.specs.inside.Numbering.{moved_resistor, moved_pad, moved_load}
 use Rattle.plain_netlist.specs.declared.card.CardKind.{CardKind}
 use Rattle.plain_netlist.specs.declared.card.CardKind.TheVariants.{Resistor, Source, Load}
 use Rattle.plain_netlist.proofs.NumberLemmas.{HasAll, member_cases, member_head, member_tail, node_number_at, place_of_member}
 
--- no name is before itself, so names in byte order are distinct
+-- No name is before itself, so names in byte order are distinct.
 pub before_itself : (a b : List ℕ) → a ≡ b → IsBefore a b → ⊥
 before_itself [] [] e h = h
 before_itself [] (y ∷ ys) e h = absurd cc
@@ -29,14 +29,14 @@ before_itself (x ∷ xs) (y ∷ ys) e (inr h) = let tails : xs ≡ ys = cc in be
 pub order_distinct : (names : List (List ℕ)) → IsInByteOrder names → AreDistinct names
 order_distinct names order i j d below within e = before_itself (get_or names i d) (get_or names j d) e (order i j d below within)
 
--- the places tell where the names of a table stand in other names
+-- The places tell where the names of a table stand in other names.
 pub record TellPlaces (table names : List (List ℕ)) (places : List ℕ) : Type 0 where
   pub distinct : AreDistinct table
   pub names_distinct : AreDistinct names
   pub count : length places ≡ length table
   pub each : EachIndex table (λ number. slice_get names (slice_index places number) ≡ slice_get table number)
 
--- the number of a name in a table has a place, and it is that of the name
+-- The number of a name in a table has a place, and it is that of the name.
 pub record Moves (table names : List (List ℕ)) (places : List ℕ) (name : List ℕ) : Type 0 where
   pub within : node_number table name < length places
   pub to : slice_index places (node_number table name) ≡ node_number names name
@@ -49,11 +49,11 @@ moves table names places tell name (k, within, at) =
     let place = node_number_at names (slice_index places k) name tell.names_distinct there in
     record { within = omega (arith, number, tell.count); to = ap (slice_index places) number ∙ sym place }
 
--- each node of these names moves
+-- Each node of these names moves.
 abbrev pub AllMove : List (List ℕ) → List (List ℕ) → List ℕ → List (List ℕ) → Type 0
 AllMove table names places nodes = (name : List ℕ) → Contains nodes name → Moves table names places name
 
--- the parts of a card, moved
+-- The parts of a card, moved.
 pub resistor_moves : (table names : List (List ℕ)) (places : List ℕ) (card : Card) (kind : CardKind) → AllMove table names places (card.from ∷ second_nodes kind card.to)
     → option_map (moved_resistor places) (resistor_of table card kind) ≡ resistor_of names card kind
 resistor_moves table names places card Resistor all =
@@ -64,13 +64,13 @@ resistor_moves table names places card Source all = refl
 resistor_moves table names places card Load all = refl
 
 pub pad_moves : (table names : List (List ℕ)) (places : List ℕ) (card : Card) (kind : CardKind) → AllMove table names places (card.from ∷ second_nodes kind card.to)
-    → option_map (moved_pad places) (pad_of table card kind) ≡ pad_of names card kind
+    → option_map (moved_pad places) (pad_on table card kind) ≡ pad_on names card kind
 pad_moves table names places card Resistor all = refl
 pad_moves table names places card Source all = let a = (all card.from (member_head card.from [])).to in λ i. Some (record { node = a i; volts = card.value })
 pad_moves table names places card Load all = refl
 
 pub load_moves : (table names : List (List ℕ)) (places : List ℕ) (card : Card) (kind : CardKind) → AllMove table names places (card.from ∷ second_nodes kind card.to)
-    → option_map (moved_load places) (load_of table card kind) ≡ load_of names card kind
+    → option_map (moved_load places) (load_on table card kind) ≡ load_on names card kind
 load_moves table names places card Resistor all = refl
 load_moves table names places card Source all = refl
 load_moves table names places card Load all = let a = (all card.from (member_head card.from [])).to in λ i. Some (record { node = a i; low = card.value; high = card.value })
@@ -79,7 +79,7 @@ pub map-cons_option : {X Y : Type 0} (f : X → Y) (o : Option X) (xs : List X) 
 map-cons_option f None xs = refl
 map-cons_option f (Some x) xs = refl
 
--- the lists of the cards, moved
+-- The lists of the cards, moved.
 pub parts_move : {Y : Type 0} (f : Y → Y) (before after : Card → Option Y) (table names : List (List ℕ)) (places : List ℕ)
     → ((card : Card) → AllMove table names places (nodes_of card) → option_map f (before card) ≡ after card)
     → (cards : List Card) → AllMove table names places (named_nodes cards) → map f (filter_map before cards) ≡ filter_map after cards
@@ -89,7 +89,7 @@ parts_move f before after table names places each (card ∷ cards) all =
     let rest = parts_move f before after table names places each cards (λ n h. all n (Contains-append_right (nodes_of card) (named_nodes cards) n h)) in
     map-cons_option f (before card) (filter_map before cards) ∙ (λ i. cons_option (here i) (rest i))
 
--- what holds of each card's part holds of the list
+-- What holds of each card's part holds of the list.
 pub parts_all : {Y : Type 0} (P : Y → Type 0) (part : Card → Option Y) (table names : List (List ℕ)) (places : List ℕ)
     → ((card : Card) → AllMove table names places (nodes_of card) → IfSome (part card) P)
     → (cards : List Card) → AllMove table names places (named_nodes cards) → All P (filter_map part cards)
@@ -110,25 +110,25 @@ resistor_within table names places card Source all = tt
 resistor_within table names places card Load all = tt
 
 pub pad_within : (table names : List (List ℕ)) (places : List ℕ) (card : Card) (kind : CardKind) → AllMove table names places (card.from ∷ second_nodes kind card.to)
-    → IfSome (pad_of table card kind) (λ p. p.node < length places)
+    → IfSome (pad_on table card kind) (λ p. p.node < length places)
 pad_within table names places card Resistor all = tt
 pad_within table names places card Source all = (all card.from (member_head card.from [])).within
 pad_within table names places card Load all = tt
 
 pub load_within : (table names : List (List ℕ)) (places : List ℕ) (card : Card) (kind : CardKind) → AllMove table names places (card.from ∷ second_nodes kind card.to)
-    → IfSome (load_of table card kind) (λ l. l.node < length places)
+    → IfSome (load_on table card kind) (λ l. l.node < length places)
 load_within table names places card Resistor all = tt
 load_within table names places card Source all = tt
 load_within table names places card Load all = (all card.from (member_head card.from [])).within
 
--- ---- pads of distinct sources
+-- ---- pads of distinct sources.
 
--- the node of a pad is that of its source
+-- The node of a pad is that of its source.
 pub pads_long : (names : List (List ℕ)) (cards : List Card) → length (pads_of names cards) ≡ length (source_nodes cards)
 pads_long names [] = refl
 pads_long names (card ∷ cards) = by card.kind (pads_long names cards)
   where
-    by : (kind : CardKind) → length (pads_of names cards) ≡ length (source_nodes cards) → length (cons_option (pad_of names card kind) (pads_of names cards)) ≡ length (cons_option (source_node kind card.from) (source_nodes cards))
+    by : (kind : CardKind) → length (pads_of names cards) ≡ length (source_nodes cards) → length (cons_option (pad_on names card kind) (pads_of names cards)) ≡ length (cons_option (source_node kind card.from) (source_nodes cards))
     by Resistor rest = rest
     by Source rest = ap suc rest
     by Load rest = rest
@@ -137,15 +137,15 @@ pub pad_node : (names : List (List ℕ)) (cards : List Card) (k : ℕ) (d : NetP
 pad_node names [] k d s h = absurd (omega arith)
 pad_node names (card ∷ cards) k d s h = by card.kind k h (λ i. pad_node names cards i d s)
   where
-    by : (kind : CardKind) (k : ℕ) → k < length (cons_option (pad_of names card kind) (pads_of names cards))
+    by : (kind : CardKind) (k : ℕ) → k < length (cons_option (pad_on names card kind) (pads_of names cards))
         → ((i : ℕ) → i < length (pads_of names cards) → (get_or (pads_of names cards) i d).node ≡ node_number names (get_or (source_nodes cards) i s))
-        → (get_or (cons_option (pad_of names card kind) (pads_of names cards)) k d).node ≡ node_number names (get_or (cons_option (source_node kind card.from) (source_nodes cards)) k s)
+        → (get_or (cons_option (pad_on names card kind) (pads_of names cards)) k d).node ≡ node_number names (get_or (cons_option (source_node kind card.from) (source_nodes cards)) k s)
     by Resistor k h rest = rest k h
     by Source zero h rest = refl
     by Source (suc k) h rest = rest k (omega arith)
     by Load k h rest = rest k h
 
--- the nodes of sources are nodes of the cards
+-- The nodes of sources are nodes of the cards.
 pub sources_named : (cards : List Card) → HasAll (source_nodes cards) (named_nodes cards)
 sources_named [] n h = h
 sources_named (card ∷ cards) n h = by card.kind h (λ k. Contains-append_right (nodes_of card) (named_nodes cards) n (sources_named cards n k))
@@ -159,7 +159,7 @@ sources_named (card ∷ cards) n h = by card.kind h (λ k. Contains-append_right
         first (inr k) = rest k
     by Load h rest = rest h
 
--- two names with one number are one
+-- Two names with one number are one.
 pub number_once : (names : List (List ℕ)) (a b : List ℕ) → AreDistinct names → Contains names a → Contains names b → node_number names a ≡ node_number names b → a ≡ b
 number_once names a b distinct (k, k_within, k_at) (l, l_within, l_at) same =
     let a_stands = place_of_member names a k k_within k_at in
@@ -167,7 +167,7 @@ number_once names a b distinct (k, k_within, k_at) (l, l_within, l_at) same =
     let places : k ≡ l = sym (node_number_at names k a distinct a_stands) ∙ (same ∙ node_number_at names l b distinct b_stands) in
     same_Some a b (sym a_stands ∙ (ap (slice_get names) places ∙ b_stands))
 
--- pads of sources at distinct nodes agree
+-- Pads of sources at distinct nodes agree.
 pub pads_agree : (names : List (List ℕ)) (cards : List Card) → AreDistinct names → HasAll (named_nodes cards) names → AreDistinct (source_nodes cards) → PadsAgree (pads_of names cards)
 pads_agree names cards distinct named apart i d i_within j e j_within same =
     by (cases_lt i j)

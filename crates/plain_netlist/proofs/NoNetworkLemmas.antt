@@ -5,26 +5,26 @@ use Rattle.std.specs.List.{cons_option}
 use Rattle.std.proofs.lemmas.List.Elements.{filter_map-append}
 use Rattle.grid_net.specs.declared.part.Resistor.{Resistor as NetResistor}
 use Rattle.grid_net.specs.Limits.{most_nodes, most_resistors}
-use Rattle.name_table.specs.Numbering.{TakesName}
+use Rattle.name_table.specs.Numbering.{TakesName, AreDistinct}
 use Rattle.plain_netlist.specs.Card.{Card}
 use Rattle.plain_netlist.specs.Netlist.{nodes_of, second_nodes, named_nodes, source_node, source_nodes, resistor_of, resistors_of}
-use Rattle.plain_netlist.specs.Entries.{AreDistinct, BeginNoNetwork, HasNumber, HasTooMany}
-use Rattle.plain_netlist.specs.Entry.{IsCardOf}
+use Rattle.plain_netlist.specs.inside.Entries.{BeginNoNetwork, HasNumber, HasTooMany}
+use Rattle.plain_netlist.specs.inside.Entry.{IsCardOf}
 use Rattle.plain_netlist.specs.declared.card.CardKind.{CardKind}
 use Rattle.plain_netlist.specs.declared.card.CardKind.TheVariants.{Resistor, Source, Load}
 use Rattle.plain_netlist.proofs.NumberLemmas.{HasAll, member_head, member_tail, distinct_fit, again_not_distinct}
 use Rattle.plain_netlist.proofs.EntryLemmas.{named_more, named_all, nodes_are, taken_cases}
 
--- ---- too many nodes
+-- ---- too many nodes.
 
--- distinct names of the cards that are more than a network's nodes
+-- Distinct names of the cards that are more than a network's nodes.
 pub too_many_nodes : (cards : List Card) (names : List (List ℕ)) → AreDistinct names → HasAll names (named_nodes cards) → most_nodes < length names → BeginNoNetwork cards
 too_many_nodes cards names distinct all many others ordered net makes =
     let fits : length names ≤ length ordered =
     distinct_fit names ordered distinct (λ n h. (makes.names_are n).1 (named_all cards others n (all n h))) in
     omega (arith, makes.limits.few_nodes)
 
--- the nodes of cards and one of the next card's are nodes of them all
+-- The nodes of cards and one of the next card's are nodes of them all.
 pub with_taken : (cards : List Card) (card : Card) (table new : List (List ℕ)) (name : List ℕ) → HasAll table (named_nodes (cards ++ card ∷ [])) → Contains (nodes_of card) name → TakesName table new name → HasAll new (named_nodes (cards ++ card ∷ []))
 with_taken cards card table new name all here taken n h = by (taken_cases table new name taken n h)
   where
@@ -37,7 +37,7 @@ with_taken cards card table new name all here taken n h = by (taken_cases table 
         append_right [] ys x h = h
         append_right (z ∷ xs) ys x h = member_tail z (xs ++ ys) x (append_right xs ys x h)
 
--- the first node of a card is one too many
+-- The first node of a card is one too many.
 pub first_too_many : (cards : List Card) (card : Card) (kind : CardKind) (first second : List ℕ) (number : ℤ) (table new : List (List ℕ))
     → ((name : List ℕ) → Contains table name ↔ Contains (named_nodes cards) name) → IsCardOf kind first second number card → HasTooMany table new first → AreDistinct new → BeginNoNetwork (cards ++ card ∷ [])
 first_too_many cards card kind first second number table new named is many distinct =
@@ -46,7 +46,7 @@ first_too_many cards card kind first second number table new named is many disti
     (subst (λ names. Contains names first) (sym (nodes_are kind first second number card is)) (member_head first (second_nodes kind second))) many.taken)
     many.too_many
 
--- so is the second one of a resistor
+-- So is the second one of a resistor.
 pub second_too_many : (cards : List Card) (card : Card) (first second : List ℕ) (number : ℤ) (table between new : List (List ℕ)) (a : ℕ)
     → ((name : List ℕ) → Contains table name ↔ Contains (named_nodes cards) name) → IsCardOf Resistor first second number card → HasNumber table between first a → HasTooMany between new second → AreDistinct new → BeginNoNetwork (cards ++ card ∷ [])
 second_too_many cards card first second number table between new a named is a_is many distinct =
@@ -58,9 +58,9 @@ second_too_many cards card first second number table between new a named is a_is
     (subst (λ names. Contains names second) (sym nodes) (member_tail first (second ∷ []) second (member_head second []))) many.taken)
     many.too_many
 
--- ---- too many resistors
+-- ---- too many resistors.
 
--- the count of the resistors is the same in each table
+-- The count of the resistors is the same in each table.
 pub count_same : (a b : List (List ℕ)) (cards : List Card) → length (resistors_of a cards) ≡ length (resistors_of b cards)
 count_same a b [] = refl
 count_same a b (card ∷ cards) = by card.kind (count_same a b cards)
@@ -71,7 +71,7 @@ count_same a b (card ∷ cards) = by card.kind (count_same a b cards)
     by Source rest = rest
     by Load rest = rest
 
--- cards with as many resistors as a network may have, and one more
+-- Cards with as many resistors as a network may have, and one more.
 pub too_many_resistors : (cards : List Card) (card : Card) (table : List (List ℕ)) (resistors : List NetResistor) → resistors ≡ resistors_of table cards → most_resistors ≤ length resistors → card.kind ≡ Resistor → BeginNoNetwork (cards ++ card ∷ [])
 too_many_resistors cards card table resistors are many kind others names net makes =
     let part = λ (c : Card). resistor_of names c c.kind in
@@ -83,7 +83,7 @@ too_many_resistors cards card table resistors are many kind others names net mak
     let here = ap length are in
     omega (arith, whole, one, same, here, makes.limits.few_resistors)
 
--- ---- a second source at a node
+-- ---- a second source at a node.
 
 pub second_source : (cards : List Card) (card : Card) (first : List ℕ) → Contains (source_nodes cards) first → card.kind ≡ Source → card.from ≡ first → BeginNoNetwork (cards ++ card ∷ [])
 second_source cards card first there kind from others names net makes =

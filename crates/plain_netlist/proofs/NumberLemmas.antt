@@ -8,9 +8,9 @@ use Rattle.std.proofs.lemmas.Option.{slice_get-get_or, slice_get_within, get_or_
 use Rattle.std.proofs.lemmas.Bool.{false_from_ne_true, true≢false}
 use Rattle.std.proofs.lemmas.List.Elements.{Contains-append_right}
 use Rattle.plain_netlist.specs.Netlist.{node_number}
-use Rattle.plain_netlist.specs.Entries.{AreDistinct}
+use Rattle.name_table.specs.Numbering.{AreDistinct}
 
--- each member of the one list is one of the other
+-- Each member of the one list is one of the other.
 abbrev pub HasAll : {X : Type 0} → List X → List X → Type 0
 HasAll {X} xs ys = (x : X) → Contains xs x → Contains ys x
 
@@ -27,14 +27,14 @@ member_tail x xs n (k, h, e) = (suc k, omega arith, e)
 pub no_member : {X : Type 0} (n : X) → Contains [] n → ⊥
 no_member n (k, h, e) = omega arith
 
--- in a list of distinct elements the head is none of the others
+-- In a list of distinct elements the head is none of the others.
 pub head_apart : {X : Type 0} (x : X) (xs : List X) → AllPairs (λ a b. a ≢ b) (x ∷ xs) → (n : X) → Contains xs n → x ≢ n
 head_apart x xs apart n (k, h, e) f = apart 0 (suc k) n (omega arith) (omega arith) (f ∙ sym e)
 
 pub tail_apart : {X : Type 0} (x : X) (xs : List X) → AllPairs (λ a b. a ≢ b) (x ∷ xs) → AllPairs (λ a b. a ≢ b) xs
 tail_apart x xs apart i j d below within = apart (suc i) (suc j) d (omega arith) (omega arith)
 
--- a member that is not at a place stays when that place is taken out
+-- A member that is not at a place stays when that place is taken out.
 pub Contains-remove : {X : Type 0} (ys : List X) (k : ℕ) (x n : X) → k < length ys → get_or ys k x ≡ x → x ≢ n → Contains ys n → Contains (remove ys k) n
 Contains-remove [] k x n within at apart h = absurd (no_member n h)
 Contains-remove (y ∷ ys) zero x n within at apart h = by (member_cases y ys n h)
@@ -53,7 +53,7 @@ length_remove [] k h = absurd (omega arith)
 length_remove (y ∷ ys) zero h = omega arith
 length_remove (y ∷ ys) (suc k) h = omega (arith, length_remove ys k (omega arith))
 
--- distinct elements that are all in a list are no more than that list has
+-- Distinct elements that are all in a list are no more than that list has.
 pub distinct_fit : {X : Type 0} (xs ys : List X) → AllPairs (λ a b. a ≢ b) xs → HasAll xs ys → length xs ≤ length ys
 distinct_fit [] ys apart all = omega arith
 distinct_fit (x ∷ xs) ys apart all =
@@ -62,7 +62,7 @@ distinct_fit (x ∷ xs) ys apart all =
     (λ n h. Contains-remove ys at.0 x n at.1 at.2 (head_apart x xs apart n h) (all n (member_tail x xs n h))) in
     omega (arith, length_remove ys at.0 at.1, rest)
 
--- an element that is in a list already makes it no list of distinct ones
+-- An element that is in a list already makes it no list of distinct ones.
 pub again_not_distinct : {X : Type 0} (xs ys : List X) (x : X) → Contains xs x → AllPairs (λ a b. a ≢ b) (xs ++ x ∷ ys) → ⊥
 again_not_distinct [] ys x h apart = no_member x h
 again_not_distinct (z ∷ xs) ys x h apart = by (member_cases z xs x h) (λ m. again_not_distinct xs ys x m (tail_apart z (xs ++ x ∷ ys) apart))
@@ -71,21 +71,21 @@ again_not_distinct (z ∷ xs) ys x h apart = by (member_cases z xs x h) (λ m. a
     by (inl e) rest = head_apart z (xs ++ x ∷ ys) apart x (Contains-append_right xs (x ∷ ys) x (member_head x ys)) e
     by (inr m) rest = rest m
 
--- the test of two names
+-- The test of two names.
 pub same_names : (a b : List ℕ) → a ≡ b → bytes_eq a b ≡ true
 same_names a b = (bytes_eq-Decides a b).1
 
 pub other_names : (a b : List ℕ) → a ≢ b → bytes_eq a b ≡ false
 other_names a b apart = false_from_ne_true (bytes_eq a b) (λ e. apart ((bytes_eq-Decides a b).0 e))
 
--- the number of the name at the head, and of another
+-- The number of the name at the head, and of another.
 pub node_number-head : (name : List ℕ) (names : List (List ℕ)) → node_number (name ∷ names) name ≡ 0
 node_number-head name names = ap (λ b. cond (not b) (1 + node_number names name) 0) (same_names name name refl)
 
 pub node_number-tail : (other name : List ℕ) (names : List (List ℕ)) → other ≢ name → node_number (other ∷ names) name ≡ 1 + node_number names name
 node_number-tail other name names apart = ap (λ b. cond (not b) (1 + node_number names name) 0) (other_names other name apart)
 
--- the number of a name is the place at which it stands
+-- The number of a name is the place at which it stands.
 pub node_number_at : (names : List (List ℕ)) (k : ℕ) (name : List ℕ) → AreDistinct names → slice_get names k ≡ Some name → node_number names name ≡ k
 node_number_at [] k name apart e = absurd cc
 node_number_at (other ∷ names) zero name apart e =
@@ -95,7 +95,7 @@ node_number_at (other ∷ names) (suc k) name apart e =
     let ne : other ≢ name = head_apart other names apart name (k, slice_get_within names k name e, get_or_from_slice_get names k name name e) in
     node_number-tail other name names ne ∙ omega (arith, node_number_at names k name (tail_apart other names apart) e)
 
--- the number of a name among more names
+-- The number of a name among more names.
 pub node_number-append : (names more : List (List ℕ)) (name : List ℕ) → Contains names name → node_number (names ++ more) name ≡ node_number names name
 node_number-append [] more name h = absurd (no_member name h)
 node_number-append (other ∷ names) more name h = by (bytes_eq other name) refl (member_cases other names name h) (node_number-append names more name)
@@ -106,10 +106,10 @@ node_number-append (other ∷ names) more name h = by (bytes_eq other name) refl
     by false e (inl same) rest = absurd (true≢false (sym (same_names other name same) ∙ e))
     by false e (inr m) rest = ap (λ n. cond (not (bytes_eq other name)) (1 + n) 0) (rest m)
 
--- a member has a place
+-- A member has a place.
 pub place_of_member : (names : List (List ℕ)) (name : List ℕ) (k : ℕ) → k < length names → get_or names k name ≡ name → slice_get names k ≡ Some name
 place_of_member names name k within e = slice_get-get_or names k name within ∙ ap (λ n. Some n) e
 
--- and what has a place is a member
+-- And what has a place is a member.
 pub member_at_place : (names : List (List ℕ)) (k : ℕ) (name : List ℕ) → slice_get names k ≡ Some name → Contains names name
 member_at_place names k name e = (k, slice_get_within names k name e, get_or_from_slice_get names k name name e)

@@ -10,13 +10,13 @@ use Rattle.grid_net.specs.declared.part.Pad.{Pad as NetPad}
 use Rattle.grid_net.specs.declared.part.Load.{Load as NetLoad}
 use Rattle.plain_netlist.specs.Card.{Card, IsPlainCard, card_text, card_line}
 use Rattle.plain_netlist.specs.Netlist.{end_line, MakesNetwork}
-use Rattle.plain_netlist.specs.Laws.{CardLaws}
-use Rattle.plain_netlist.specs.Reading.{BeginsWithCard, IsNoNetlist, IsNotPlain}
-use Rattle.plain_netlist.specs.Entries.{KeepsCards, BeginNoNetwork, IsReadTo, IsReadWhole}
+use Rattle.plain_netlist.specs.inside.Laws.{CardLaws}
+use Rattle.plain_netlist.specs.inside.Reading.{BeginsWithCard, IsNoNetlist, IsNotPlain}
+use Rattle.plain_netlist.specs.inside.Entries.{KeepsCards, BeginNoNetwork, IsReadTo, IsReadWhole}
 use Rattle.plain_netlist.specs.declared.card.CardKind.{CardKind}
 use Rattle.plain_netlist.proofs.TextLemmas.{done_first, line_and_behind}
 
--- before the first line nothing is kept
+-- Before the first line nothing is kept.
 pub nothing_kept : KeepsCards [] [] [] [] [] []
 nothing_kept = record {
   named = λ name. (λ h. h, λ h. h);
@@ -33,13 +33,13 @@ nothing_kept = record {
 pub read_nothing : (text : List ℕ) → IsReadTo text text [] [] [] [] [] []
 read_nothing text = record { each_card = All-nil IsPlainCard; text_is = refl; keeps = nothing_kept }
 
--- the lines of one more card
+-- The lines of one more card.
 pub lines_more : (cards : List Card) (card : Card) (behind : List ℕ) → flat_map card_line cards ++ (card_line card ++ behind) ≡ flat_map card_line (cards ++ card ∷ []) ++ behind
 lines_more cards card behind =
     sym (append_assoc (flat_map card_line cards) (card_line card) behind)
     ∙ ap (λ lines. lines ++ behind) (ap (λ last. flat_map card_line cards ++ last) (sym (append-nil (card_line card))) ∙ sym (flat_map-append card_line cards (card ∷ [])))
 
--- where a card stands first in the rest, and what is kept is that of it too
+-- Where a card stands first in the rest, and what is kept is that of it too.
 pub read_more : (text rest behind : List ℕ) (table sources table' sources' : List (List ℕ)) (resistors resistors' : List NetResistor) (pads pads' : List NetPad) (loads loads' : List NetLoad) (cards : List Card)
     (kind : CardKind) (first second : List ℕ) (number : ℤ) (card : Card)
     → IsReadTo text rest table sources resistors pads loads cards → BeginsWithCard rest kind first second number behind card → KeepsCards (cards ++ card ∷ []) table' sources' resistors' pads' loads'
@@ -50,13 +50,13 @@ read_more text rest behind table sources table' sources' resistors resistors' pa
   keeps = keeps;
 }
 
--- the rest is shorter than before
+-- The rest is shorter than before.
 pub behind_is_shorter : (rest behind : List ℕ) (kind : CardKind) (first second : List ℕ) (number : ℤ) (card : Card) → BeginsWithCard rest kind first second number behind card → length behind < length rest
 behind_is_shorter rest behind kind first second number card begins =
     let e = ap length (begins.text_is ∙ line_and_behind card behind) in
     omega (arith, e, length-append (card_text card) (10 ∷ behind))
 
--- where the rest is the last line
+-- Where the rest is the last line.
 pub read_whole : (text rest : List ℕ) (table sources : List (List ℕ)) (resistors : List NetResistor) (pads : List NetPad) (loads : List NetLoad) (cards : List Card)
     → IsReadTo text rest table sources resistors pads loads cards → rest ≡ end_line → IsReadWhole text table sources resistors pads loads cards
 read_whole text rest table sources resistors pads loads cards to end = record {
@@ -65,18 +65,18 @@ read_whole text rest table sources resistors pads loads cards to end = record {
   keeps = to.keeps;
 }
 
--- a text that begins with cards which begin no network is not plain
+-- A text that begins with cards which begin no network is not plain.
 pub refuse_cards : CardLaws → (text rest : List ℕ) (cards : List Card) → All IsPlainCard cards → text ≡ flat_map card_line cards ++ rest → BeginNoNetwork cards → IsNotPlain text
 refuse_cards laws text rest cards plain e none names net (whole, is, makes) =
     let on = done_first laws cards whole rest plain makes.each_card (sym e ∙ is) in
     none on.others names net (subst (λ cs. MakesNetwork cs names net) on.cards_are makes)
 
--- nor is one whose rest is no netlist
+-- Nor is one whose rest is no netlist.
 pub refuse_rest : CardLaws → (text rest : List ℕ) (cards : List Card) → All IsPlainCard cards → text ≡ flat_map card_line cards ++ rest → IsNoNetlist rest → IsNotPlain text
 refuse_rest laws text rest cards plain e none names net (whole, is, makes) =
     let on = done_first laws cards whole rest plain makes.each_card (sym e ∙ is) in none on.others on.others_plain on.rest_is
 
--- nor is one in which the next card makes it so
+-- Nor is one in which the next card makes it so.
 pub refuse_card : CardLaws → (text rest behind : List ℕ) (table sources : List (List ℕ)) (resistors : List NetResistor) (pads : List NetPad) (loads : List NetLoad) (cards : List Card)
     (kind : CardKind) (first second : List ℕ) (number : ℤ) (card : Card)
     → IsReadTo text rest table sources resistors pads loads cards → BeginsWithCard rest kind first second number behind card → BeginNoNetwork (cards ++ card ∷ []) → IsNotPlain text

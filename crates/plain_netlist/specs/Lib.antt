@@ -1,8 +1,3 @@
 pub mod Card
-pub mod Cut
 pub mod Netlist
-pub mod Entry
-pub mod Laws
-pub mod Reading
-pub mod Entries
-pub mod Numbering
+pub mod inside

@@ -13,79 +13,79 @@ use Rattle.plain_netlist.specs.Card.{Card, IsPlainCard, card_line}
 use Rattle.plain_netlist.specs.declared.card.CardKind.{CardKind}
 use Rattle.plain_netlist.specs.declared.card.CardKind.TheVariants.{Resistor, Source, Load}
 
--- ---- the text
+-- ---- the text.
 
--- the last line of a netlist, with its line feed
+-- The last line of a netlist, with its line feed.
 abbrev pub end_line : List ℕ
 end_line = codes ".end" ++ 10 ∷ []
 
--- the text of a netlist: the lines of its cards, and the line `.end`, behind whose line feed nothing stands
+-- The text of a netlist: the lines of its cards, and the line `.end`, behind whose line feed nothing stands.
 abbrev pub netlist_text : List Card → List ℕ
 netlist_text cards = flat_map card_line cards ++ end_line
 
--- ---- the nodes
+-- ---- the nodes.
 
--- the second node of a card of this kind, if it is one of the network's: that of a resistor
+-- The second node of a card of this kind, if it is one of the network's: that of a resistor.
 abbrev pub second_nodes : CardKind → List ℕ → List (List ℕ)
 second_nodes Resistor to = to ∷ []
 second_nodes Source to = []
 second_nodes Load to = []
 
--- the nodes that a card names, but node 0
+-- The nodes that a card names, but node 0.
 abbrev pub nodes_of : Card → List (List ℕ)
 nodes_of card = card.from ∷ second_nodes card.kind card.to
 
--- the nodes that the cards name, one after another
+-- The nodes that the cards name, one after another.
 abbrev pub named_nodes : List Card → List (List ℕ)
 named_nodes cards = flat_map nodes_of cards
 
--- the node of a card of this kind, if it is a source
+-- The node of a card of this kind, if it is a source.
 abbrev pub source_node : CardKind → List ℕ → Option (List ℕ)
 source_node Resistor node = None
 source_node Source node = Some node
 source_node Load node = None
 
--- the nodes at which the source cards stand, one after another
+-- The nodes at which the source cards stand, one after another.
 abbrev pub source_nodes : List Card → List (List ℕ)
 source_nodes cards = filter_map (λ card. source_node card.kind card.from) cards
 
--- ---- the network
+-- ---- the network.
 
--- the number of a node: the place of its name in a list of names
+-- The number of a node: the place of its name in a list of names.
 abbrev pub node_number : List (List ℕ) → List ℕ → ℕ
 node_number names name = position_or_len (λ other. bytes_eq other name) names
 
--- the resistor of a card of this kind, if it is one
+-- The resistor of a card of this kind, if it is one.
 abbrev pub resistor_of : List (List ℕ) → Card → CardKind → Option NetResistor
 resistor_of names card Resistor = Some (record { a = node_number names card.from; b = node_number names card.to; ohms = card.value })
 resistor_of names card Source = None
 resistor_of names card Load = None
 
--- the pad of a card of this kind, if it is a source: it holds the node at the source's voltage
-abbrev pub pad_of : List (List ℕ) → Card → CardKind → Option NetPad
-pad_of names card Resistor = None
-pad_of names card Source = Some (record { node = node_number names card.from; volts = card.value })
-pad_of names card Load = None
+-- The pad of a card of this kind, if it is a source: it holds the node at the source's voltage.
+abbrev pub pad_on : List (List ℕ) → Card → CardKind → Option NetPad
+pad_on names card Resistor = None
+pad_on names card Source = Some (record { node = node_number names card.from; volts = card.value })
+pad_on names card Load = None
 
--- the load of a card of this kind, if it is one: the current that is drawn out of the node, whose two ends are both the card's value
-abbrev pub load_of : List (List ℕ) → Card → CardKind → Option NetLoad
-load_of names card Resistor = None
-load_of names card Source = None
-load_of names card Load = Some (record { node = node_number names card.from; low = card.value; high = card.value })
+-- The load of a card of this kind, if it is one: the current that is drawn out of the node, whose two ends are both the card's value.
+abbrev pub load_on : List (List ℕ) → Card → CardKind → Option NetLoad
+load_on names card Resistor = None
+load_on names card Source = None
+load_on names card Load = Some (record { node = node_number names card.from; low = card.value; high = card.value })
 
--- the resistors of the cards, in the order of the cards, where a node's number is the place of its name
+-- The resistors of the cards, in the order of the cards, where a node's number is the place of its name.
 abbrev pub resistors_of : List (List ℕ) → List Card → List NetResistor
 resistors_of names cards = filter_map (λ card. resistor_of names card card.kind) cards
 
--- the pads of the cards, alike
+-- The pads of the cards, alike.
 abbrev pub pads_of : List (List ℕ) → List Card → List NetPad
-pads_of names cards = filter_map (λ card. pad_of names card card.kind) cards
+pads_of names cards = filter_map (λ card. pad_on names card card.kind) cards
 
--- the loads of the cards, alike
+-- The loads of the cards, alike.
 abbrev pub loads_of : List (List ℕ) → List Card → List NetLoad
-loads_of names cards = filter_map (λ card. load_of names card card.kind) cards
+loads_of names cards = filter_map (λ card. load_on names card card.kind) cards
 
--- these plain cards name these nodes, in byte order, and make this network: it keeps the limits of a network, and no two source cards stand at one node
+-- These plain cards name these nodes, in byte order, and make this network: it keeps the limits of a network, and no two source cards stand at one node.
 pub record MakesNetwork (cards : List Card) (names : List (List ℕ)) (net : Network) : Type 0 where
   pub each_card : All IsPlainCard cards
   pub in_order : IsInByteOrder names
@@ -94,6 +94,6 @@ pub record MakesNetwork (cards : List Card) (names : List (List ℕ)) (net : Net
   pub limits : KeepsLimits (length names) (resistors_of names cards) (pads_of names cards) (loads_of names cards)
   pub network_is : net ≡ network_of (length names) (resistors_of names cards) (pads_of names cards) (loads_of names cards)
 
--- the text is a plain netlist, with these names of nodes in byte order and this network, in which a node's number is the place of its name
+-- The text is a plain netlist, with these names of nodes in byte order and this network, in which a node's number is the place of its name.
 abbrev pub IsPlainNetlist : List ℕ → List (List ℕ) → Network → Type 0
 IsPlainNetlist text names net = (cards : List Card) × (text ≡ netlist_text cards) × MakesNetwork cards names net

@@ -3,7 +3,7 @@
 ghost use Rattle.std.specs.Prelude.{◌≡◌, ◌↔◌, ◌++◌, ◌∷◌, true, false, IsTrue, MatchOption};
 ghost use Rattle.std.specs.List.{list_any, list_all};
 ghost use Rattle.plain_netlist.specs.Card.{is_white, is_node_byte, IsNodeName};
-ghost use Rattle.plain_netlist.specs.Cut.{Lacks};
+ghost use Rattle.plain_netlist.specs.inside.Cut.{Lacks};
 
 use memchr::memchr;
 

@@ -1,9 +1,9 @@
 //! One card of a plain netlist.
 
 ghost use Rattle.std.specs.Prelude.{◌≡◌, ◌≢◌, ℕ, ℤ, ◌≤◌, ◌^◌, List, ◌++◌, ◌∷◌, [], MatchOption, Some, None, IsTrue, ◌↔◌};
-ghost use Rattle.plain_netlist.specs.Card.{Card, letter, card_text, IsPlainCard, IsOtherNode, value_places, value_limit};
-ghost use Rattle.plain_netlist.specs.Cut.{AreFourWords, AreNotFourWords};
-ghost use Rattle.plain_netlist.specs.Entry.{ArePlainWords, IsKindOf, Gives, IsNoCard};
+ghost use Rattle.plain_netlist.specs.Card.{Card, letter, card_text, IsPlainCard, IsOtherNode, value_places, card_limit};
+ghost use Rattle.plain_netlist.specs.inside.Cut.{AreFourWords, AreNotFourWords};
+ghost use Rattle.plain_netlist.specs.inside.Entry.{ArePlainWords, IsKindOf, SpellsCard, IsNoCard};
 ghost use Rattle.fixed_decimal.specs.Value.{SpiceReads};
 
 use crate::bytes::{cut, has_white, is_node_name};
@@ -32,7 +32,7 @@ impl CardKind {
 
     /// The greatest magnitude that a value of this kind may have as it is read.
     fn limit(self) -> u128
-        ensures limit { result ≡ value_limit self }
+        ensures limit { result ≡ card_limit self }
         ensures within { result ≤ 10 ^ 37 }
     {
         match self {
@@ -107,14 +107,14 @@ fn are_plain_words(kind: CardKind, name: &[u8], from: &[u8], to: &[u8]) -> bool
 
 /// The value of a card of this kind, in nΩ, yV or fA.
 fn read_value(kind: CardKind, text: &[u8]) -> Option<i128>
-    ensures { (value : ℤ) → (result ≡ Some value) ↔ SpiceReads (value_places kind) (value_limit kind) text.now value }
+    ensures { (value : ℤ) → (result ≡ Some value) ↔ SpiceReads (value_places kind) (card_limit kind) text.now value }
 {
     read_spice(text, kind.places(), kind.limit()).ok()
 }
 
 /// The card whose line, without its line feed, this is, or none where it is no plain card's.
 pub(crate) fn read_card(line: &[u8]) -> Option<CardEntry<'_>>
-    ensures { MatchOption result (IsNoCard line.now) (λ entry. Gives line.now entry.kind entry.from.now entry.to.now entry.value) }
+    ensures { MatchOption result (IsNoCard line.now) (λ entry. SpellsCard line.now entry.kind entry.from.now entry.to.now entry.value) }
 {
     let words = split_words(line)?;
     let (letter, name) = words.first.split_first()?;

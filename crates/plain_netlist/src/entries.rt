@@ -4,9 +4,10 @@
 ghost use Rattle.std.specs.Prelude.{◌≡◌, ◌<◌, ◌≤◌, All, map, ◌++◌, ◌∷◌, [], ℕ, List, length, Contains, MatchResult, MatchBool, IfOk, IfErr, pos, negsuc, FitsSigned};
 ghost use Rattle.grid_net.specs.Limits.{most_nodes};
 ghost use Rattle.plain_netlist.specs.Card.{Card};
-ghost use Rattle.plain_netlist.specs.Entries.{AreDistinct, KeepsCards, KeepsCard, HasNumber, HasTooMany};
-ghost use Rattle.plain_netlist.specs.Entry.{IsCardOf};
-ghost use Rattle.plain_netlist.specs.Numbering.{moved_resistor, moved_pad, moved_load};
+ghost use Rattle.name_table.specs.Numbering.{AreDistinct};
+ghost use Rattle.plain_netlist.specs.inside.Entries.{KeepsCards, KeepsCard, HasNumber, HasTooMany};
+ghost use Rattle.plain_netlist.specs.inside.Entry.{IsCardOf};
+ghost use Rattle.plain_netlist.specs.inside.Numbering.{moved_resistor, moved_pad, moved_load};
 ghost use Rattle.plain_netlist.specs.declared.card.CardKind.TheVariants.{Resistor as ResistorKind, Source as SourceKind, Load as LoadKind};
 ghost use Rattle.plain_netlist.specs.declared.error.PlainNetlistError.TheVariants.{NotPlain, Want};
 

@@ -3,7 +3,7 @@
 ghost use Rattle.std.specs.Prelude.{◌≡◌, ℕ, List, length};
 ghost use Rattle.grid_net.specs.Network.{Network, IsNetwork};
 ghost use Rattle.grid_net.specs.Limits.{IsBuilt};
-ghost use Rattle.plain_netlist.specs.Laws.{CardLaws};
+ghost use Rattle.plain_netlist.specs.inside.Laws.{CardLaws};
 ghost use Rattle.plain_netlist.specs.Netlist.{IsPlainNetlist};
 
 use fixed_decimal::{numbers_are_words, texts_have_one_answer};

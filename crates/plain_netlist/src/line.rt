@@ -1,8 +1,8 @@
 //! The lines of a plain netlist, one after another.
 
 ghost use Rattle.std.specs.Prelude.{◌≡◌, ◌++◌, ◌∷◌};
-ghost use Rattle.plain_netlist.specs.Cut.{Lacks};
-ghost use Rattle.plain_netlist.specs.Reading.{IsFirstLine};
+ghost use Rattle.plain_netlist.specs.inside.Cut.{Lacks};
+ghost use Rattle.plain_netlist.specs.inside.Reading.{IsFirstLine};
 
 use crate::bytes::cut;
 use crate::card::{CardEntry, read_card};

@@ -1,7 +1,7 @@
 //! From the numbers in which the nodes came to the places of their names in byte order.
 
 ghost use Rattle.std.specs.Prelude.{◌≡◌, ◌<◌, length, map, All};
-ghost use Rattle.plain_netlist.specs.Numbering.{moved_resistor, moved_pad, moved_load};
+ghost use Rattle.plain_netlist.specs.inside.Numbering.{moved_resistor, moved_pad, moved_load};
 
 use grid_net::{Load, Pad, Resistor};
 

@@ -2,8 +2,8 @@
 
 ghost use Rattle.std.specs.Prelude.{◌≡◌, [], ℕ, List, IfOk};
 ghost use Rattle.plain_netlist.specs.Card.{Card};
-ghost use Rattle.plain_netlist.specs.Entries.{KeepsCards, IsReadWhole};
-ghost use Rattle.plain_netlist.specs.Reading.{IsNotPlain};
+ghost use Rattle.plain_netlist.specs.inside.Entries.{KeepsCards, IsReadWhole};
+ghost use Rattle.plain_netlist.specs.inside.Reading.{IsNotPlain};
 ghost use Rattle.plain_netlist.specs.declared.error.PlainNetlistError.TheVariants.{NotPlain};
 
 use crate::entries::Entries;

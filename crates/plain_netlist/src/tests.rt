@@ -38,16 +38,16 @@ fn refusal(alloc: Global, text: &[u8]) -> Option<PlainNetlistError> {
 const PLAIN: [&[u8]; 30] = [
     b".end\n",
     b"R1 p n 1\nV1 p 0 1\nI1 n 0 1\n.end\n",
-    // a load at a node that no other card names
+    // A load at a node that no other card names.
     b"I1 a 0 1\n.end\n",
-    // a name may be empty, and may hold any byte but white space
+    // A name may be empty, and may hold any byte but white space.
     b"R p n 1\n.end\n",
     b"R\xff\x00+'\"* p n 1\n.end\n",
     b"R1 _ 00 1\n.end\n",
     b"R1 a a 1\n.end\n",
-    // two resistors, two loads and a source at one node; the same name twice
+    // Two resistors, two loads and a source at one node; the same name twice.
     b"R1 a b 1\nR1 a b 1\nI1 a 0 1\nI1 a 0 1\nV1 a 0 1\n.end\n",
-    // numbers
+    // Numbers.
     b"R1 a b +1\n.end\n",
     b"R1 a b 1.\n.end\n",
     b"R1 a b .1\n.end\n",
@@ -62,7 +62,7 @@ const PLAIN: [&[u8]; 30] = [
     b"R1 a b 000000000000000000000000000000000000000000000000000000000000000000000000000000000000000000000000000000000000000000000000000000000000000000000000000000000000000000000000000000000000000000000000001\n.end\n",
     b"V1 a 0 0\n.end\n",
     b"I1 a 0 -0\n.end\n",
-    // limits that are met
+    // Limits that are met.
     b"R1 a b 1n\n.end\n",
     b"R1 a b 0.0000000005\n.end\n",
     b"R1 a b 1000\n.end\n",
@@ -75,7 +75,7 @@ const PLAIN: [&[u8]; 30] = [
 
 // Texts that are one or a few bytes away from plain.
 const NOT_PLAIN: [&[u8]; 74] = [
-    // the end
+    // The end.
     b"",
     b"\n",
     b".end",
@@ -92,7 +92,7 @@ const NOT_PLAIN: [&[u8]; 74] = [
     b"R1 a b 1\n.e",
     b"R1 a b 1.end\n",
     b"R1 a b 1",
-    // white space
+    // White space.
     b"R1 a b 1\r\n.end\n",
     b"R1 a b 1\n.end\r\n",
     b"R1  a b 1\n.end\n",
@@ -114,7 +114,7 @@ const NOT_PLAIN: [&[u8]; 74] = [
     b"R\t1 a b 1\n.end\n",
     b"\nR1 a b 1\n.end\n",
     b"R1 a b 1\n\n.end\n",
-    // letters, and lines of other kinds
+    // Letters, and lines of other kinds.
     b"r1 a b 1\n.end\n",
     b"v1 a 0 1\n.end\n",
     b"i1 a 0 1\n.end\n",
@@ -122,7 +122,7 @@ const NOT_PLAIN: [&[u8]; 74] = [
     b"* a comment\n.end\n",
     b".op\n.end\n",
     b"R1 a b 1\n+ 2\n.end\n",
-    // nodes
+    // Nodes.
     b"R1 A b 1\n.end\n",
     b"R1 a B 1\n.end\n",
     b"R1 a 0 1\n.end\n",
@@ -135,10 +135,10 @@ const NOT_PLAIN: [&[u8]; 74] = [
     b"V1 0 0 0\n.end\n",
     b"I1 a b 1\n.end\n",
     b"I1 0 0 1\n.end\n",
-    // two sources at one node
+    // Two sources at one node.
     b"V1 a 0 1\nV2 a 0 1\n.end\n",
     b"V1 a 0 1\nV2 b 0 1\nV3 a 0 2\n.end\n",
-    // numbers
+    // Numbers.
     b"R1 a b .\n.end\n",
     b"R1 a b +\n.end\n",
     b"R1 a b 1mil\n.end\n",
@@ -148,7 +148,7 @@ const NOT_PLAIN: [&[u8]; 74] = [
     b"R1 a b 1meg\n.end\n",
     b"R1 a b 10000000000000000000000000000000000000000000000000000000000000000000000000000000000000000000000000000\n.end\n",
     b"R1 a b 0.00000000049\n.end\n",
-    // limits that are passed
+    // Limits that are passed.
     b"R1 a b 0\n.end\n",
     b"R1 a b -1n\n.end\n",
     b"R1 a b 1000.000000001\n.end\n",

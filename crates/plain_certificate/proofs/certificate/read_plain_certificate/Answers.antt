@@ -7,7 +7,7 @@ use Rattle.plain_certificate.proofs.Bodies.{head_line}
 use Rattle.plain_certificate.proofs.Reading.{HasRead, read_head, read_row_more, no_row, read_end, no_end}
 use Rattle.plain_certificate.proofs.certificate.read_plain_certificate.Goals as goal
 
--- the names that are left at a step of the loop, and at its end
+-- The names that are left at a step of the loop, and at its end.
 next_name : (names : List (Bor (List ℕ))) (i : ℕ) → i < length names
     → map (λ n. n.now) (drop i names) ≡ (get_or names i (record { ref_ptr = (0, 0); now = [] })).now ∷ map (λ n. n.now) (drop (i + 1) names)
 next_name names i within = ap (map (λ n. n.now)) (drop_more names i (record { ref_ptr = (0, 0); now = [] }) within)
@@ -42,7 +42,7 @@ loop-name-preserved c =
     subst (λ (h : List ℤ). HasRead c.args.text.now names h c.push.new.lists.low.items left row.rest.now) (sym high)
     (subst (λ (l : List ℤ). HasRead c.args.text.now names (c.loop-name.lists.high.items ++ row.high ∷ []) l left row.rest.now) (sym low) after)
 
--- what was read when no name is left
+-- What was read when no name is left.
 pub returns-then-is_end-clause-ok : goal.returns-then-is_end-clause-ok
 returns-then-is_end-clause-ok c =
     let names : List (List ℕ) = map (λ n. n.now) c.args.names.now in

@@ -1,5 +1,5 @@
 use Rattle.std.proofs.Common.{ℕ, drop, subst}
-use Rattle.plain_certificate.specs.Front.{BeginsWithDigit}
+use Rattle.plain_certificate.specs.inside.Front.{BeginsWithDigit}
 use Rattle.plain_certificate.proofs.Digits.{too_great, no_digit}
 use Rattle.plain_certificate.proofs.number.magnitude.Goals as goal
 

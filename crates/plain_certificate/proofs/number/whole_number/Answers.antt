@@ -2,7 +2,7 @@ use Rattle.std.proofs.Common.{ℤ, subst, None, Some}
 use Rattle.std.proofs.lemmas.Bool.Decides.{Decides-eqb}
 use Rattle.std.proofs.lemmas.Slice.Eq.{strip_prefix_is}
 use Rattle.std.specs.Prelude.{codes}
-use Rattle.plain_certificate.specs.Front.{IsNumberThen}
+use Rattle.plain_certificate.specs.inside.Front.{IsNumberThen}
 use Rattle.plain_certificate.proofs.Signs.{answer_without_minus, negative_from_digits, digits_from_negative, negated}
 use Rattle.plain_certificate.proofs.number.whole_number.Goals as goal
 

@@ -2,7 +2,7 @@ use Rattle.std.proofs.Common.{List, ℕ, None, Some, subst}
 use Rattle.std.specs.Prelude.{codes}
 use Rattle.std.proofs.lemmas.Bool.Decides.{Decides-eqb}
 use Rattle.std.proofs.lemmas.Slice.Eq.{strip_prefix_is}
-use Rattle.plain_certificate.specs.Front.{IsVoltageThen}
+use Rattle.plain_certificate.specs.inside.Front.{IsVoltageThen}
 use Rattle.plain_certificate.proofs.Rows.{row_from_parts, passed_row, no_name, no_high, no_low, no_line_feed}
 use Rattle.plain_certificate.proofs.row.read_row.Goals as goal
 

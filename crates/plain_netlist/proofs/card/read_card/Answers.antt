@@ -3,7 +3,7 @@ use Rattle.std.specs.Int.{w128}
 use Rattle.std.proofs.lemmas.Bool.{false≢true}
 use Rattle.std.proofs.lemmas.Option.{none-some}
 use Rattle.std.proofs.lemmas.Grind.{common_steps}
-use Rattle.plain_netlist.specs.Cut.{AreFourWords}
+use Rattle.plain_netlist.specs.inside.Cut.{AreFourWords}
 use Rattle.plain_netlist.proofs.CardLemmas.{no_card_without_words, no_card_without_letter, no_card_of_letter, no_card_of_words, no_card_of_value, card_of_words}
 use Rattle.plain_netlist.proofs.card.read_card.Goals as goal
 
@@ -18,7 +18,7 @@ returns-in_err-letter c =
     (no_card_without_letter c.args.line.now words.from.now words.to.now words.text.now
     (subst (λ first. AreFourWords c.args.line.now first words.from.now words.to.now words.text.now) empty c.in_ok-words.ensures))
 
--- the words of the line, where the first one is its first byte and the rest
+-- The words of the line, where the first one is its first byte and the rest.
 with_letter : (line first from' to' text' : List ℕ) (byte : ℕ) (name : List ℕ) → first ≡ byte ∷ name → AreFourWords line first from' to' text' → AreFourWords line (byte ∷ name) from' to' text'
 with_letter line first from' to' text' byte name e words = subst (λ f. AreFourWords line f from' to' text') e words
 

@@ -2,7 +2,7 @@ use Rattle.std.proofs.Common.{◌≡◌, sym, subst, ◌∙◌, ◌∷◌, ◌++
 use Rattle.std.specs.Prelude.{codes}
 use Rattle.std.proofs.lemmas.Bool.{true≢false}
 use Rattle.std.proofs.lemmas.Slice.Eq.{bytes_eq-Decides}
-use Rattle.plain_netlist.specs.Reading.{IsNoNetlist}
+use Rattle.plain_netlist.specs.inside.Reading.{IsNoNetlist}
 use Rattle.plain_netlist.proofs.TextLemmas.{nothing_long, something_long, no_netlist_behind_end, no_netlist_of_line}
 use Rattle.plain_netlist.proofs.line.line_of.Goals as goal
 

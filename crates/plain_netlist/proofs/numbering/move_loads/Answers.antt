@@ -2,7 +2,7 @@ use Rattle.std.proofs.Common.{◌<◌, length, get_or, arith, pos}
 use Rattle.std.proofs.lemmas.List.{get_or_default}
 use Rattle.std.proofs.lemmas.List.Edits.{map_over_more}
 use Rattle.grid_net.specs.declared.part.Load.{Load}
-use Rattle.plain_netlist.specs.Numbering.{moved_load}
+use Rattle.plain_netlist.specs.inside.Numbering.{moved_load}
 use Rattle.plain_netlist.proofs.numbering.move_loads.Goals as goal
 
 pub loop-load-preserved : goal.loop-load-preserved

@@ -2,7 +2,7 @@ use Rattle.std.proofs.Common.{subst, SFits, to_z-of_z}
 use Rattle.std.specs.Prelude.{Contains}
 use Rattle.std.specs.Int.{w128}
 use Rattle.std.proofs.lemmas.Result.{err_from_is_err_and}
-use Rattle.plain_netlist.specs.Entries.{AreDistinct}
+use Rattle.name_table.specs.Numbering.{AreDistinct}
 use Rattle.plain_netlist.specs.declared.card.CardKind.TheVariants.{Source}
 use Rattle.plain_netlist.proofs.EntryLemmas.{keeps_source}
 use Rattle.plain_netlist.proofs.NoNetworkLemmas.{first_too_many, second_source}

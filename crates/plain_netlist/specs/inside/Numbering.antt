@@ -4,7 +4,7 @@ use Rattle.grid_net.specs.declared.part.Resistor.{Resistor as NetResistor}
 use Rattle.grid_net.specs.declared.part.Pad.{Pad as NetPad}
 use Rattle.grid_net.specs.declared.part.Load.{Load as NetLoad}
 
--- a resistor, a pad, a load whose nodes are moved to their places
+-- A resistor, a pad, a load whose nodes are moved to their places.
 abbrev pub moved_resistor : List ℕ → NetResistor → NetResistor
 moved_resistor places r = record { a = slice_index places r.a; b = slice_index places r.b; ohms = r.ohms }
 

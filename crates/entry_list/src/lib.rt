@@ -6,7 +6,6 @@ ghost use Rattle.std.specs.Prelude.{◌≡◌};
 mod named;
 
 pub use named::NamedEntries;
-
 use std::marker::Model;
 
 /// A list of entries, in a record. It is made from a `Vec` and read as a slice.

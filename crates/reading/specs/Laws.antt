@@ -1,6 +1,6 @@
 -- What formats need for their laws: faults at the last word and at earlier ones, rules that are tested by a
 -- computation, blocks, and that a text has one record.
-use Rattle.std.proofs.Common.{◌≡◌, ℕ, zero, suc, ◌+◌, ◌<◌, ◌≤◌, ◌⊎◌, inl, inr, Bool, true, false, if◌then◌else◌, not, ◌&&◌, List, [], ◌∷◌, ◌++◌, length, slice_get, Some, None, Result, Ok, Err, refl, sym, ◌∙◌, ap, subst, arith, length-append}
+use Rattle.std.proofs.Common.{◌≡◌, ℕ, zero, suc, ◌+◌, ◌<◌, ◌≤◌, ◌⊎◌, inl, inr, Bool, true, false, if◌then◌else◌, not, ◌&&◌, List, [], ◌∷◌, ◌++◌, length, slice_get, Option, Some, None, Result, Ok, Err, refl, sym, ◌∙◌, ap, subst, arith, length-append}
 use Rattle.std.proofs.lemmas.List.{append-nil}
 use Rattle.outside.specs.declared.place.Place.{Place}
 use Rattle.text_lex.specs.declared.word.Mode.{Mode}
@@ -16,6 +16,8 @@ use Rattle.reading.specs.Reading.{Format, Text, IsFine, IsOrderly}
 use Rattle.reading.specs.Word.{Token, seen_text}
 use Rattle.reading.specs.Outcome.{IsReadAs, IsRefusedAt}
 use Rattle.reading.specs.Error.{Kinds, kind_of, ReadsRecord, Agree}
+use Rattle.reading.specs.Fault.{Finds, found_at}
+use Rattle.reading.specs.Grammar.{Shows}
 use Rattle.reading.specs.Blocks.{Block, before_head, blocks, with_unit}
 
 -- Each fault stands at the last word that shows it, and the words of a unit show at most one.
@@ -216,6 +218,14 @@ late f now = record {
   near = λ units part a begins h. now.near units part a h;
   order = λ units part more a b begins h k. late-order f now units part more a b h k;
 }
+
+-- The kind that is found at a word is the fault that the words show, where all faults of these words stand there.
+pub show-at : {S K : Type 0} (f : Format Token S K) (units : List (List Token)) (part : List Token) (n : ℕ) (shows : K → Type 0) →
+    ((a : Found K) → f.fault units part a → (a.at ≡ n) × shows a.kind) →
+    ((kind : K) → shows kind → f.fault units part (record { at = n; kind = kind })) →
+    (kind : Option K) → Finds shows kind → Shows f units part (found_at n kind)
+show-at f units part n shows there back None h = λ a k. h a.kind (there a k).1
+show-at f units part n shows there back (Some kind) h = back kind h
 
 -- ## one record
 

@@ -8,6 +8,7 @@ pub mod Grammar
 pub mod Reader
 pub mod Outcome
 pub mod Error
+pub mod Fault
 pub mod Blocks
 pub mod Keyword
 pub mod Laws

@@ -24,7 +24,7 @@ pub use items::{read_into, read_text, read_text_by_hand};
 pub use laws::texts_have_one_result;
 pub use numbered::Numbered;
 pub use reader::{Reader, read_by_hand};
-pub use refusal::{Cause, Found, Refusal};
+pub use refusal::{Cause, Found, Refusal, found_at};
 pub use rule::Rule;
 pub use source::Source;
 pub use stop::{Step, Stop};

@@ -1,3 +1,6 @@
+ghost use Rattle.std.specs.Prelude.{◌≡◌};
+ghost use Rattle.reading.specs.Fault.{found_at};
+
 use outside::Place;
 use text_lex::LexKind;
 
@@ -28,4 +31,14 @@ pub enum Refusal<K> {
     Want,
     /// The text is refused at the word that begins here.
     At(Place, Cause<K>),
+}
+
+/// The fault of this kind, where there is one, of the word that has so many words of its unit before it.
+pub fn found_at<K>(at: usize, kind: Option<K>) -> Option<Found<K>>
+    ensures { result ≡ found_at at kind }
+{
+    match kind {
+        Some(kind) => Some(Found { at, kind }),
+        None => None,
+    }
 }

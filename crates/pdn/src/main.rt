@@ -1,6 +1,7 @@
 //! `pdn`: a power grid builder with certified IR-drop sign-off.
 //!
-//! The program hands real files, standard output and the words behind its name to `pdn_signoff::run`, and ends with the status that it answers.
+//! The program hands real files, standard output and the words after its name to `pdn_signoff::run`, and ends with the
+//! status that it answers.
 #![tactic(auto)]
 
 use outside::{Argv, StdFiles, StdSink};
@@ -12,7 +13,7 @@ use std::{env, io};
 /// The exit status where there is no memory for the words.
 const WANT: u8 = 10;
 
-/// The words behind the program's name. Where one is not UTF-8 they are none, so that they name no command.
+/// The words after the program's name. Where one is not UTF-8 they are none, so that they name no command.
 fn words(alloc: Global, rt: &(impl Env + AllocGlobal)) -> Result<Argv, AllocError> {
     let mut words = Argv::new(alloc)?;
     match env::args(rt) {

@@ -46,7 +46,8 @@ pub record WasRead (before after : FilesThen) (file later : List ℕ) : Type 0 w
   pub no_fault : file ≢ later → after.counts.reads file ≡ before.counts.reads file
 
 -- The texts of the two files, each of at most as many bytes as an input may have.
-pub record AreTexts (known : Option Holdings) (netlist certificate netlist_text certificate_text : List ℕ) : Type 0 where
+pub record AreTexts (known : Option Holdings) (netlist certificate netlist_text certificate_text : List ℕ)
+    : Type 0 where
   pub netlist_is : IsTextOf known netlist netlist_text
   pub netlist_fits : length netlist_text ≤ longest_text
   pub certificate_is : IsTextOf known certificate certificate_text

@@ -32,8 +32,8 @@ pub record CanRise (counts : FaultCounts) : Type 0 where
   pub faults : counts.faults ≢ last_count
   pub reads : (name : List ℕ) → counts.reads name ≢ last_count
 
--- How the printing of a line ends: with the status that goes with it, where no call on the sink failed; with 3, where the
--- line could not be written; or with 10, where memory ran out over it.
+-- How the printing of a line ends: with the status that goes with it, where no call on the sink failed; with 3, where
+-- the line could not be written; or with 10, where memory ran out over it.
 abbrev pub PrintEnds : ℕ → ℕ → List ℕ → SinkThen → SinkThen → Type 0
 PrintEnds result status line before after =
     ((result ≡ status) × WhereKnown (Adds line) before.known after.known × (after.faults ≡ before.faults))
@@ -44,8 +44,8 @@ PrintEnds result status line before after =
 abbrev pub Ends : ℕ → SinkThen → SinkThen → Answer → Type 0
 Ends result before after answer = PrintEnds result (status_of answer) (line_of answer) before after
 
--- The words are those of `check` over these two files, each of at most as many bytes as an input may have, and the texts
--- that are held stand for this network and these lists.
+-- The words are those of `check` over these two files, each of at most as many bytes as an input may have, and the
+-- texts that are held stand for this network and these lists.
 pub record IsPlainCheck (words : List (List ℕ)) (held : Holdings) (names : List (List ℕ)) (net : Network)
     (high low : List ℤ) : Type 0 where
   pub netlist : List ℕ

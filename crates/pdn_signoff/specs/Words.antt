@@ -3,8 +3,8 @@ use Rattle.std.specs.Prelude.{◌≡◌, ◌≢◌, ℕ, List, [], ◌∷◌, Co
 use Rattle.pdn_signoff.specs.declared.words.Command.{Command}
 use Rattle.pdn_signoff.specs.declared.words.Command.TheVariants.{Check}
 
--- What may stand as an option's value: a word that is not empty, does not begin with `-`, and has no line feed in it, so
--- that an answer that names a file is one line.
+-- What may stand as an option's value: a word that is not empty, does not begin with `-`, and has no line feed in it,
+-- so that an answer that names a file is one line.
 abbrev pub IsOptionValue : List ℕ → Type 0
 IsOptionValue [] = ⊥
 IsOptionValue (first ∷ rest) = (first ≢ 45) × ¬ Contains (first ∷ rest) 10

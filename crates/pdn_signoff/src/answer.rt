@@ -23,8 +23,8 @@ pub enum Answer {
     NotPlain(Name),
     /// The test of the certificate holds, on a network of this many nodes.
     Certified(u32),
-    /// The first failing test of the certificate: the node's name, the side, and the number found there (yV for a value,
-    /// fA for a flow or a sum).
+    /// The first failing test of the certificate: the node's name, the side, and the number found there (yV for a
+    /// value, fA for a flow or a sum).
     NotCertified(Name, Side, i128),
 }
 

@@ -67,7 +67,8 @@ pub fn run<F: Files, O: Sink>(alloc: Global, words: &Argv, files: &mut F, out: &
     ensures judged { (held : Holdings) (names : List (List ℕ)) (net : Network) (high low : List ℤ)
         → F.known files.old ≡ Some held → IsPlainCheck words.now held names net high low
         → ¬ Rose (F.counts files.old).faults (F.counts files.new).faults → ¬ Rose (O.faults out.old) (O.faults out.new)
-        → ((result ≡ 0) × IsCertificate net high low) ⊎ (((result ≡ 9) × ¬ IsCertificate net high low) ⊎ (result ≡ 10)) }
+        → ((result ≡ 0) × IsCertificate net high low)
+        ⊎ (((result ≡ 9) × ¬ IsCertificate net high low) ⊎ (result ≡ 10)) }
 
     // After the status 0 every solution of the netlist lies between the certificate's two lists, at each node, where it
     // is known what the files hold.

@@ -1,4 +1,5 @@
-//! The commands of `pdn`, from the words of the command line and the bytes of files to the exit status and the one line that is printed.
+//! The commands of `pdn`, from the words of the command line and the bytes of files to the exit status and the one line
+//! that is printed.
 #![tactic(auto)]
 
 pub mod answer;

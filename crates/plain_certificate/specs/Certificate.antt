@@ -26,5 +26,6 @@ pub record IsPlainCertificate (text : List ℕ) (names : List (List ℕ)) (high 
   pub high_count : length high ≡ length names
   pub low_count : length low ≡ length names
   pub each_row : (node : ℕ) → node < length names
-      → IsRow (slice_index_or names node []) (slice_index_or high node (pos 0)) (slice_index_or low node (pos 0)) (slice_index_or rows node [])
+      → IsRow (slice_index_or names node []) (slice_index_or high node (pos 0)) (slice_index_or low node (pos 0))
+      (slice_index_or rows node [])
   pub all_white : All IsWhiteByte white

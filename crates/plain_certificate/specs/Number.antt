@@ -9,7 +9,9 @@ digits_value (digit ∷ behind) = (digit - 48) * 10 ^ length behind + digits_val
 
 -- Digits alone write their number, and behind a minus sign its negative.
 abbrev pub HasSign : List ℕ → List ℕ → ℤ → Type 0
-HasSign text digits value = ((text ≡ digits) × (value ≡ pos (digits_value digits))) ⊎ ((text ≡ codes "-" ++ digits) × (value ≡ neg_ℤ (pos (digits_value digits))))
+HasSign text digits value =
+    ((text ≡ digits) × (value ≡ pos (digits_value digits)))
+    ⊎ ((text ≡ codes "-" ++ digits) × (value ≡ neg_ℤ (pos (digits_value digits))))
 
 -- A text writes a whole number: an optional minus sign and one or more digits, of which the first may be zeros.
 pub record IsWholeNumber (text : List ℕ) (value : ℤ) : Type 0 where

@@ -47,7 +47,8 @@ pub fn read_plain_certificate(
     text: &[u8],
     names: &[&[u8]],
 ) -> Result<Lists, PlainCertificateError>
-    ensures ok { IfOk result (λ lists. IsPlainCertificate text.now (map (λ n. n.now) names.now) lists.high.items lists.low.items) }
+    ensures ok { IfOk result
+        (λ lists. IsPlainCertificate text.now (map (λ n. n.now) names.now) lists.high.items lists.low.items) }
     ensures high_count { IfOk result (λ lists. length lists.high.items ≡ length names.now) }
     ensures low_count { IfOk result (λ lists. length lists.low.items ≡ length names.now) }
     ensures not_plain { result ≡ Err PlainCertificateError.NotPlain

@@ -23,9 +23,12 @@ pub(crate) struct Number<'a> {
 
 // All digits at the front of a text, or `None` where some of them write more than the limit already.
 fn leading_digits(text: &[u8]) -> Option<Digits>
-    ensures count { MatchOption result ((count : ℕ) × (All IsAsciiDigit (take count text.now)) × (limit < digits_value (take count text.now)))
-        (λ found. (found.count ≤ length text.now) × (All IsAsciiDigit (take found.count text.now)) × (¬ BeginsWithDigit (drop found.count text.now))) }
-    ensures number { MatchOption result Unit (λ found. (found.number ≡ digits_value (take found.count text.now)) × (found.number ≤ limit)) }
+    ensures count { MatchOption result
+        ((count : ℕ) × (All IsAsciiDigit (take count text.now)) × (limit < digits_value (take count text.now)))
+        (λ found. (found.count ≤ length text.now) × (All IsAsciiDigit (take found.count text.now))
+        × (¬ BeginsWithDigit (drop found.count text.now))) }
+    ensures number { MatchOption result Unit
+        (λ found. (found.number ≡ digits_value (take found.count text.now)) × (found.number ≤ limit)) }
 {
     let mut number = 0u128;
     for (count, byte) in text.iter().enumerate() {
@@ -43,7 +46,8 @@ fn leading_digits(text: &[u8]) -> Option<Digits>
 
 // One or more digits at the front of a text, which no digit follows, and which write a number within the limit.
 fn magnitude(text: &[u8]) -> Option<Number<'_>>
-    ensures { MatchOption result ((value : ℤ) (rest : List ℕ) → ¬ IsDigitsThen text.now value rest) (λ n. IsDigitsThen text.now n.value n.rest.now) }
+    ensures { MatchOption result ((value : ℤ) (rest : List ℕ) → ¬ IsDigitsThen text.now value rest)
+        (λ n. IsDigitsThen text.now n.value n.rest.now) }
 {
     let found = leading_digits(text)?;
     if found.count == 0 {
@@ -56,7 +60,8 @@ fn magnitude(text: &[u8]) -> Option<Number<'_>>
 
 // A whole number within the limit at the front of a text, which no digit follows.
 pub(crate) fn whole_number(text: &[u8]) -> Option<Number<'_>>
-    ensures { MatchOption result ((value : ℤ) (rest : List ℕ) → ¬ IsNumberThen text.now value rest) (λ n. IsNumberThen text.now n.value n.rest.now) }
+    ensures { MatchOption result ((value : ℤ) (rest : List ℕ) → ¬ IsNumberThen text.now value rest)
+        (λ n. IsNumberThen text.now n.value n.rest.now) }
 {
     let Some(behind) = text.strip_prefix(b"-") else {
         return magnitude(text);

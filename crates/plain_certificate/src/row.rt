@@ -14,7 +14,8 @@ pub(crate) struct Row<'a> {
 
 // A blank and a number at the front of a text.
 fn voltage(text: &[u8]) -> Option<Number<'_>>
-    ensures { MatchOption result ((value : ℤ) (rest : List ℕ) → ¬ IsVoltageThen text.now value rest) (λ n. IsVoltageThen text.now n.value n.rest.now) }
+    ensures { MatchOption result ((value : ℤ) (rest : List ℕ) → ¬ IsVoltageThen text.now value rest)
+        (λ n. IsVoltageThen text.now n.value n.rest.now) }
 {
     whole_number(text.strip_prefix(b" ")?)
 }

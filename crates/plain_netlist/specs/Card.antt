@@ -1,4 +1,5 @@
--- The cards of a power grid netlist in its plain form: that of Nassif's power grid benchmarks, in which a grid is resistors (R), supply sources (V) and current loads (I), cut down to single blanks between words.
+-- The cards of a power grid netlist in its plain form: that of Nassif's power grid benchmarks, in which a grid is
+-- resistors (R), supply sources (V) and current loads (I), cut down to single blanks between words.
 use Rattle.std.specs.Prelude.{◌≡◌, ◌≢◌, ℕ, ℤ, ◌^◌, Bool, true, false, ◌==◌, ◌||◌, ◌&&◌, nat_le, List, [], ◌∷◌, ◌++◌, codes}
 use Rattle.std.specs.List.{join_with_byte, list_any, list_all}
 use Rattle.fixed_decimal.specs.Value.{SpiceReads}
@@ -23,7 +24,8 @@ pub record IsNodeName (name : List ℕ) : Type 0 where
   pub plain_bytes : list_all is_node_byte name ≡ true
   pub not_zero : name ≢ zero_node
 
--- One card: its kind, the name behind its letter, its two nodes, the text of its value, and the whole number of nΩ, yV or fA that this text stands for.
+-- One card: its kind, the name behind its letter, its two nodes, the text of its value, and the whole number of nΩ,
+-- yV or fA that this text stands for.
 pub record Card : Type 0 where
   pub kind : CardKind
   pub name : List ℕ
@@ -56,7 +58,8 @@ IsOtherNode Resistor to = IsNodeName to
 IsOtherNode Source to = to ≡ zero_node
 IsOtherNode Load to = to ≡ zero_node
 
--- A card in plain form: its name has no white space, its nodes are named as they should be, and its value is read with SPICE's scales.
+-- A card in plain form: its name has no white space, its nodes are named as they should be, and its value is read
+-- with SPICE's scales.
 pub record IsPlainCard (card : Card) : Type 0 where
   pub name_in_one_word : list_any is_white card.name ≡ false
   pub first_node : IsNodeName card.from
@@ -71,6 +74,7 @@ card_words card = (letter card.kind ∷ card.name) ∷ card.from ∷ card.to ∷
 abbrev pub card_text : Card → List ℕ
 card_text card = join_with_byte 32 (card_words card)
 
--- The line of a card: `R<name> a b ohms`, `V<name> a 0 volts` or `I<name> a 0 amperes`, with the line feed that ends it.
+-- The line of a card: `R<name> a b ohms`, `V<name> a 0 volts` or `I<name> a 0 amperes`, with the line feed that ends
+-- it.
 abbrev pub card_line : Card → List ℕ
 card_line card = card_text card ++ 10 ∷ []

@@ -1,5 +1,6 @@
 -- A plain netlist: its text, and the network that stands in it.
--- The form is that of the public power grid benchmarks (S. R. Nassif, "Power Grid Analysis Benchmarks", ASP-DAC 2008), with single blanks between the words of a line, and no other lines than cards and `.end`.
+-- The form is that of the public power grid benchmarks (S. R. Nassif, "Power Grid Analysis Benchmarks", ASP-DAC
+-- 2008), with single blanks between the words of a line, and no other lines than cards and `.end`.
 use Rattle.std.specs.Prelude.{◌≡◌, ◌≢◌, ◌↔◌, ℕ, List, [], ◌∷◌, ◌++◌, codes, length, All, AllPairs, Contains, Option, Some, None}
 use Rattle.std.specs.List.{flat_map, filter_map, position_or_len}
 use Rattle.std.specs.Str.{bytes_eq}
@@ -57,7 +58,8 @@ node_number names name = position_or_len (λ other. bytes_eq other name) names
 
 -- The resistor of a card of this kind, if it is one.
 abbrev pub resistor_of : List (List ℕ) → Card → CardKind → Option NetResistor
-resistor_of names card Resistor = Some (record { a = node_number names card.from; b = node_number names card.to; ohms = card.value })
+resistor_of names card Resistor =
+    Some (record { a = node_number names card.from; b = node_number names card.to; ohms = card.value })
 resistor_of names card Source = None
 resistor_of names card Load = None
 
@@ -67,7 +69,8 @@ pad_on names card Resistor = None
 pad_on names card Source = Some (record { node = node_number names card.from; volts = card.value })
 pad_on names card Load = None
 
--- The load of a card of this kind, if it is one: the current that is drawn out of the node, whose two ends are both the card's value.
+-- The load of a card of this kind, if it is one: the current that is drawn out of the node, whose two ends are both
+-- the card's value.
 abbrev pub load_on : List (List ℕ) → Card → CardKind → Option NetLoad
 load_on names card Resistor = None
 load_on names card Source = None
@@ -85,15 +88,18 @@ pads_of names cards = filter_map (λ card. pad_on names card card.kind) cards
 abbrev pub loads_of : List (List ℕ) → List Card → List NetLoad
 loads_of names cards = filter_map (λ card. load_on names card card.kind) cards
 
--- These plain cards name these nodes, in byte order, and make this network: it keeps the limits of a network, and no two source cards stand at one node.
+-- These plain cards name these nodes, in byte order, and make this network: it keeps the limits of a network, and no
+-- two source cards stand at one node.
 pub record MakesNetwork (cards : List Card) (names : List (List ℕ)) (net : Network) : Type 0 where
   pub each_card : All IsPlainCard cards
   pub in_order : IsInByteOrder names
   pub names_are : (name : List ℕ) → Contains names name ↔ Contains (named_nodes cards) name
   pub one_source_a_node : AllPairs (λ a b. a ≢ b) (source_nodes cards)
   pub limits : KeepsLimits (length names) (resistors_of names cards) (pads_of names cards) (loads_of names cards)
-  pub network_is : net ≡ network_of (length names) (resistors_of names cards) (pads_of names cards) (loads_of names cards)
+  pub network_is : net ≡ network_of (length names) (resistors_of names cards) (pads_of names cards)
+      (loads_of names cards)
 
--- The text is a plain netlist, with these names of nodes in byte order and this network, in which a node's number is the place of its name.
+-- The text is a plain netlist, with these names of nodes in byte order and this network, in which a node's number is
+-- the place of its name.
 abbrev pub IsPlainNetlist : List ℕ → List (List ℕ) → Network → Type 0
 IsPlainNetlist text names net = (cards : List Card) × (text ≡ netlist_text cards) × MakesNetwork cards names net

@@ -44,7 +44,8 @@ pub(crate) fn is_node_name(text: &[u8]) -> bool
 
 /// The bytes before the first `end` in the text and those behind it, or none where the text lacks it.
 pub(crate) fn cut(text: &[u8], end: u8) -> Option<(&[u8], &[u8])>
-    ensures { MatchOption result (Lacks end text.now) (λ cut. Lacks end cut.0.now × (text.now ≡ cut.0.now ++ end ∷ cut.1.now)) }
+    ensures { MatchOption result (Lacks end text.now)
+        (λ cut. Lacks end cut.0.now × (text.now ≡ cut.0.now ++ end ∷ cut.1.now)) }
 {
     match memchr(end, text) {
         Some(at) => Some((&text[..at], &text[at + 1..])),

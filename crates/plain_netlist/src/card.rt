@@ -62,7 +62,8 @@ struct CardWords<'a> {
 
 /// The words of a line that has three blanks or more: those up to the third one, and what stands behind it.
 fn split_words(line: &[u8]) -> Option<CardWords<'_>>
-    ensures { MatchOption result (AreNotFourWords line.now) (λ words. AreFourWords line.now words.first.now words.from.now words.to.now words.text.now) }
+    ensures { MatchOption result (AreNotFourWords line.now)
+        (λ words. AreFourWords line.now words.first.now words.from.now words.to.now words.text.now) }
 {
     let (first, behind_first) = cut(line, b' ')?;
     let (from, behind_from) = cut(behind_first, b' ')?;
@@ -114,7 +115,8 @@ fn read_value(kind: CardKind, text: &[u8]) -> Option<i128>
 
 /// The card whose line, without its line feed, this is, or none where it is no plain card's.
 pub(crate) fn read_card(line: &[u8]) -> Option<CardEntry<'_>>
-    ensures { MatchOption result (IsNoCard line.now) (λ entry. SpellsCard line.now entry.kind entry.from.now entry.to.now entry.value) }
+    ensures { MatchOption result (IsNoCard line.now)
+        (λ entry. SpellsCard line.now entry.kind entry.from.now entry.to.now entry.value) }
 {
     let words = split_words(line)?;
     let (letter, name) = words.first.split_first()?;

@@ -44,7 +44,8 @@ pub(crate) struct Entries<'a> {
 fn number_of<'a>(table: &mut NameTable<'a>, name: &'a [u8]) -> Result<u32, PlainNetlistError>
     requires { length table.old ≤ most_nodes }
     ensures distinct { AreDistinct table.new }
-    ensures numbered { MatchResult result (λ number. HasNumber table.old table.new name.now number) (λ e. e ≡ NotPlain → HasTooMany table.old table.new name.now) }
+    ensures numbered { MatchResult result (λ number. HasNumber table.old table.new name.now number)
+        (λ e. e ≡ NotPlain → HasTooMany table.old table.new name.now) }
 {
     match table.number(name) {
         Ok(number) => {
@@ -60,7 +61,8 @@ fn number_of<'a>(table: &mut NameTable<'a>, name: &'a [u8]) -> Result<u32, Plain
 
 /// Whether the table lacked the name, which it then takes.
 fn is_new<'a>(table: &mut NameTable<'a>, name: &'a [u8]) -> Result<bool, PlainNetlistError>
-    ensures old { IfOk result (λ new. MatchBool new (table.new ≡ table.old ++ name.now ∷ []) (Contains table.old name.now)) }
+    ensures old { IfOk result
+        (λ new. MatchBool new (table.new ≡ table.old ++ name.now ∷ []) (Contains table.old name.now)) }
     ensures distinct { AreDistinct table.new }
     ensures want { IfErr result (λ e. e ≡ Want) }
 {
@@ -95,9 +97,12 @@ impl<'a> Entries<'a> {
         ohms: i128,
     ) -> Result<(), PlainNetlistError>
         requires { length self.old.table ≤ most_nodes }
-        ensures { (cards : List Card) (card : Card) → KeepsCards cards self.old.table self.old.sources self.old.resistors.items self.old.pads.items self.old.loads.items
+        ensures { (cards : List Card) (card : Card)
+            → KeepsCards cards self.old.table self.old.sources self.old.resistors.items
+            self.old.pads.items self.old.loads.items
             → IsCardOf ResistorKind from.now to.now ohms card
-            → KeepsCard (cards ++ card ∷ []) self.new.table self.new.sources self.new.resistors.items self.new.pads.items self.new.loads.items result }
+            → KeepsCard (cards ++ card ∷ []) self.new.table self.new.sources self.new.resistors.items
+            self.new.pads.items self.new.loads.items result }
     {
         if self.resistors.len() >= MOST_RESISTORS {
             return Err(PlainNetlistError::NotPlain);
@@ -111,9 +116,12 @@ impl<'a> Entries<'a> {
     /// Takes a source. A second one at its node is not plain.
     fn add_source(&mut self, node: &'a [u8], volts: i128) -> Result<(), PlainNetlistError>
         requires { length self.old.table ≤ most_nodes }
-        ensures { (cards : List Card) (card : Card) → KeepsCards cards self.old.table self.old.sources self.old.resistors.items self.old.pads.items self.old.loads.items
+        ensures { (cards : List Card) (card : Card)
+            → KeepsCards cards self.old.table self.old.sources self.old.resistors.items
+            self.old.pads.items self.old.loads.items
             → IsCardOf SourceKind node.now card.to volts card
-            → KeepsCard (cards ++ card ∷ []) self.new.table self.new.sources self.new.resistors.items self.new.pads.items self.new.loads.items result }
+            → KeepsCard (cards ++ card ∷ []) self.new.table self.new.sources self.new.resistors.items
+            self.new.pads.items self.new.loads.items result }
     {
         let number = number_of(&mut self.table, node)?;
         if !is_new(&mut self.sources, node)? {
@@ -129,9 +137,12 @@ impl<'a> Entries<'a> {
     /// Takes a load: its two ends are the one number.
     fn add_load(&mut self, node: &'a [u8], amps: i64) -> Result<(), PlainNetlistError>
         requires { length self.old.table ≤ most_nodes }
-        ensures { (cards : List Card) (card : Card) → KeepsCards cards self.old.table self.old.sources self.old.resistors.items self.old.pads.items self.old.loads.items
+        ensures { (cards : List Card) (card : Card)
+            → KeepsCards cards self.old.table self.old.sources self.old.resistors.items
+            self.old.pads.items self.old.loads.items
             → IsCardOf LoadKind node.now card.to amps card
-            → KeepsCard (cards ++ card ∷ []) self.new.table self.new.sources self.new.resistors.items self.new.pads.items self.new.loads.items result }
+            → KeepsCard (cards ++ card ∷ []) self.new.table self.new.sources self.new.resistors.items
+            self.new.pads.items self.new.loads.items result }
     {
         let number = number_of(&mut self.table, node)?;
         self.loads.push(Load {
@@ -145,10 +156,14 @@ impl<'a> Entries<'a> {
     /// Takes a card.
     pub(crate) fn add(&mut self, entry: &CardEntry<'a>) -> Result<(), PlainNetlistError>
         requires few { length self.old.table ≤ most_nodes }
-        requires card { (card : Card) × IsCardOf entry.now.kind entry.now.from.now entry.now.to.now entry.now.value card }
-        ensures { (cards : List Card) (card : Card) → KeepsCards cards self.old.table self.old.sources self.old.resistors.items self.old.pads.items self.old.loads.items
+        requires card { (card : Card)
+            × IsCardOf entry.now.kind entry.now.from.now entry.now.to.now entry.now.value card }
+        ensures { (cards : List Card) (card : Card)
+            → KeepsCards cards self.old.table self.old.sources self.old.resistors.items
+            self.old.pads.items self.old.loads.items
             → IsCardOf entry.now.kind entry.now.from.now entry.now.to.now entry.now.value card
-            → KeepsCard (cards ++ card ∷ []) self.new.table self.new.sources self.new.resistors.items self.new.pads.items self.new.loads.items result }
+            → KeepsCard (cards ++ card ∷ []) self.new.table self.new.sources self.new.resistors.items
+            self.new.pads.items self.new.loads.items result }
     {
         cards_are_known_by_their_lines();
         match entry.kind {

@@ -32,18 +32,22 @@ fn refusal(error: NetError) -> PlainNetlistError
     }
 }
 
-/// Reads a plain netlist: lines `R<name> a b ohms`, `V<name> a 0 volts` and `I<name> a 0 amperes`, with single blanks, and the line `.end`.
-/// The form is that of the public power grid benchmarks (S. R. Nassif, "Power Grid Analysis Benchmarks", ASP-DAC 2008), and a value has SPICE's scales.
+/// Reads a plain netlist: lines `R<name> a b ohms`, `V<name> a 0 volts` and `I<name> a 0 amperes`, with single
+/// blanks, and the line `.end`. The form is that of the public power grid benchmarks (S. R. Nassif, "Power Grid
+/// Analysis Benchmarks", ASP-DAC 2008), and a value has SPICE's scales.
 ///
-/// Nothing is copied but numbers: the names are slices of the text. The time is that of one pass over the text, and of one sort of the names.
+/// Nothing is copied but numbers: the names are slices of the text. The time is that of one pass over the text, and
+/// of one sort of the names.
 ///
-/// `NotPlain` comes exactly where the text is no plain netlist, also where a limit of a network is passed or a node has two sources, unless memory was wanting (`Want`).
+/// `NotPlain` comes exactly where the text is no plain netlist, also where a limit of a network is passed or a node
+/// has two sources, unless memory was wanting (`Want`).
 pub fn read_plain_netlist<'a>(
     alloc: Global,
     text: &'a [u8],
 ) -> Result<PlainNetlist<'a>, PlainNetlistError>
     ensures plain { IfOk result (λ read. IsPlainNetlist text.now (map (λ n. n.now) read.names.items) read.net) }
-    ensures not_plain { result ≡ Err PlainNetlistError.NotPlain → (names : List (List ℕ)) (net : Network) → ¬ IsPlainNetlist text.now names net }
+    ensures not_plain { result ≡ Err PlainNetlistError.NotPlain → (names : List (List ℕ)) (net : Network)
+        → ¬ IsPlainNetlist text.now names net }
 {
     cards_are_known_by_their_lines();
     one_order();

@@ -17,7 +17,8 @@ pub(crate) fn read_cards<'a>(
     alloc: Global,
     text: &'a [u8],
 ) -> Result<Entries<'a>, PlainNetlistError>
-    ensures whole { IfOk result (λ e. (cards : List Card) × IsReadWhole text.now e.table e.sources e.resistors.items e.pads.items e.loads.items cards) }
+    ensures whole { IfOk result (λ e. (cards : List Card)
+        × IsReadWhole text.now e.table e.sources e.resistors.items e.pads.items e.loads.items cards) }
     ensures not_plain { result ≡ Err NotPlain → IsNotPlain text.now }
 {
     cards_are_known_by_their_lines();

@@ -2,7 +2,8 @@ use super::*;
 use std::alloc::Global;
 use std::test::Fail;
 
-// A netlist with each kind of card. The numbers are counted by hand: 1 ohm is 10^9 nΩ, 1 V is 10^24 yV, 1 mA is 10^12 fA.
+// A netlist with each kind of card. The numbers are counted by hand: 1 ohm is 10^9 nΩ, 1 V is 10^24 yV, 1 mA is 10^12
+// fA.
 const SMALL: &[u8] =
     b"R1 p n 1\nV1 p 0 1\nI1 n 0 1m\nR2 b_2 n 25m\nR n n .5\nIload/7 n 0 -1u\nI9 q 0 0\n.end\n";
 

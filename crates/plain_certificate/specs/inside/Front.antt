@@ -1,4 +1,5 @@
--- What stands at the front of a text, and what is left behind it: one definition for each step of the reader, inside this crate.
+-- What stands at the front of a text, and what is left behind it: one definition for each step of the reader, inside
+-- this crate.
 use Rattle.std.specs.Prelude.{◌≡◌, ℕ, ◌<◌, ◌≤◌, ℤ, pos, List, [], ◌∷◌, ◌++◌, length, All, codes}
 use Rattle.std.specs.Char.{IsAsciiDigit}
 use Rattle.plain_certificate.specs.Number.{digits_value, limit, IsWholeNumber, IsWithinLimit}

@@ -13,7 +13,8 @@ use Rattle.plain_netlist.specs.declared.error.PlainNetlistError.{PlainNetlistErr
 use Rattle.plain_netlist.specs.declared.error.PlainNetlistError.TheVariants.{NotPlain}
 
 -- The table has the nodes of these cards, and the lists are those of the cards, with the numbers of that table.
-pub record KeepsCards (cards : List Card) (table sources : List (List ℕ)) (resistors : List NetResistor) (pads : List NetPad) (loads : List NetLoad) : Type 0 where
+pub record KeepsCards (cards : List Card) (table sources : List (List ℕ)) (resistors : List NetResistor)
+    (pads : List NetPad) (loads : List NetLoad) : Type 0 where
   pub named : (name : List ℕ) → Contains table name ↔ Contains (named_nodes cards) name
   pub distinct : AreDistinct table
   pub sources_are : sources ≡ source_nodes cards
@@ -26,7 +27,8 @@ pub record KeepsCards (cards : List Card) (table sources : List (List ℕ)) (res
 
 -- No network is made by cards that begin with these.
 abbrev pub BeginNoNetwork : List Card → Type 0
-BeginNoNetwork cards = (others : List Card) (names : List (List ℕ)) (net : Network) → MakesNetwork (cards ++ others) names net → ⊥
+BeginNoNetwork cards =
+    (others : List Card) (names : List (List ℕ)) (net : Network) → MakesNetwork (cards ++ others) names net → ⊥
 
 -- The name has this number in the table, which took it where it was new.
 pub record HasNumber (old new : List (List ℕ)) (name : List ℕ) (number : ℕ) : Type 0 where
@@ -39,19 +41,25 @@ pub record HasTooMany (old new : List (List ℕ)) (name : List ℕ) : Type 0 whe
   pub taken : TakesName old new name
   pub too_many : most_nodes < length new
 
--- What comes of a card behind others: what is kept is that of all of them, or no network is made by cards that begin so.
-abbrev pub KeepsCard : List Card → List (List ℕ) → List (List ℕ) → List NetResistor → List NetPad → List NetLoad → Result (Unit {0}) PlainNetlistError → Type 0
+-- What comes of a card behind others: what is kept is that of all of them, or no network is made by cards that begin
+-- so.
+abbrev pub KeepsCard : List Card → List (List ℕ) → List (List ℕ) → List NetResistor → List NetPad → List NetLoad
+    → Result (Unit {0}) PlainNetlistError → Type 0
 KeepsCard cards table sources resistors pads loads result =
-    MatchResult result (λ _. KeepsCards cards table sources resistors pads loads) (λ e. e ≡ NotPlain → BeginNoNetwork cards)
+    MatchResult result
+    (λ _. KeepsCards cards table sources resistors pads loads)
+    (λ e. e ≡ NotPlain → BeginNoNetwork cards)
 
 -- The text is the lines of these plain cards and a rest, and what is kept is that of the cards.
-pub record IsReadTo (text rest : List ℕ) (table sources : List (List ℕ)) (resistors : List NetResistor) (pads : List NetPad) (loads : List NetLoad) (cards : List Card) : Type 0 where
+pub record IsReadTo (text rest : List ℕ) (table sources : List (List ℕ)) (resistors : List NetResistor)
+    (pads : List NetPad) (loads : List NetLoad) (cards : List Card) : Type 0 where
   pub each_card : All IsPlainCard cards
   pub text_is : text ≡ flat_map card_line cards ++ rest
   pub keeps : KeepsCards cards table sources resistors pads loads
 
 -- The text is that of plain cards, of which this is kept.
-pub record IsReadWhole (text : List ℕ) (table sources : List (List ℕ)) (resistors : List NetResistor) (pads : List NetPad) (loads : List NetLoad) (cards : List Card) : Type 0 where
+pub record IsReadWhole (text : List ℕ) (table sources : List (List ℕ)) (resistors : List NetResistor)
+    (pads : List NetPad) (loads : List NetLoad) (cards : List Card) : Type 0 where
   pub each_card : All IsPlainCard cards
   pub text_is : text ≡ netlist_text cards
   pub keeps : KeepsCards cards table sources resistors pads loads

@@ -26,13 +26,15 @@ pub record IsCardOf (kind : CardKind) (first_node second_node : List ℕ) (numbe
   pub value_is : card.value ≡ number
 
 -- This card stands on the line, with this kind, these nodes and this value.
-pub record IsSpelled (line : List ℕ) (kind : CardKind) (first_node second_node : List ℕ) (number : ℤ) (card : Card) : Type 0 where
+pub record IsSpelled (line : List ℕ) (kind : CardKind) (first_node second_node : List ℕ) (number : ℤ)
+    (card : Card) : Type 0 where
   pub is_card : IsCardOf kind first_node second_node number card
   pub text_is : card_text card ≡ line
 
 -- A card stands on the line, with this kind, these nodes and this value.
 abbrev pub SpellsCard : List ℕ → CardKind → List ℕ → List ℕ → ℤ → Type 0
-SpellsCard line kind first_node second_node number = (card : Card) × IsSpelled line kind first_node second_node number card
+SpellsCard line kind first_node second_node number = (card : Card)
+    × IsSpelled line kind first_node second_node number card
 
 -- A name of a card and its two nodes as they are in a plain card of this kind.
 pub record ArePlainWords (kind : CardKind) (card_name first_node second_node : List ℕ) : Type 0 where

@@ -25,6 +25,8 @@ pub fn texts_have_one_answer()
         IsAnswer IsDecimal places limit text r → IsAnswer IsDecimal places limit text s → r ≡ s }
     ensures spice { (places limit : ℕ) (text : List ℕ) (r s : Result ℤ DecimalError) →
         IsAnswer IsSpice places limit text r → IsAnswer IsSpice places limit text s → r ≡ s }
+    ensures integer { (places limit : ℕ) (text : List ℕ) (r s : Result ℤ DecimalError) →
+        IsAnswer IsInteger places limit text r → IsAnswer IsInteger places limit text s → r ≡ s }
     ensures decimal_reads { (places limit : ℕ) (text : List ℕ) (v w : ℤ) → DecimalReads places limit text v →
         DecimalReads places limit text w → v ≡ w }
     ensures spice_reads { (places limit : ℕ) (text : List ℕ) (v w : ℤ) → SpiceReads places limit text v →

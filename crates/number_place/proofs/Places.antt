@@ -101,3 +101,28 @@ has_sign place text value decimal spice integer h =
     sign_kept place.sign value (StandsFor (is_of place.form) text IsNegative) (IsAnswer (is_of place.form) place.places place.limit text (Ok (pos 0)))
     (keeps_by place.form text decimal spice integer place.places place.limit value h.1).1
     (λ e. subst (λ z. IsAnswer (is_of place.form) place.places place.limit text (Ok z)) e h.1) h.0
+
+-- ## one answer
+
+abbrev pub HasOne : NumberForm → List ℕ → Type 0
+HasOne form text = (places limit : ℕ) (r s : Result ℤ DecimalError) → IsAnswer (is_of form) places limit text r → IsAnswer (is_of form) places limit text s → r ≡ s
+
+one_by : (form : NumberForm) (text : List ℕ) → HasOne Decimal text → HasOne Scaled text → HasOne Integer text → HasOne form text
+one_by Decimal text decimal spice integer = decimal
+one_by Scaled text decimal spice integer = spice
+one_by Integer text decimal spice integer = integer
+
+once : (place : NumberPlace) (text : List ℕ) → HasOne place.form text → (r s : Result ℤ Refused) → IsNumberAt place text r → IsNumberAt place text s → r ≡ s
+once place text one (Ok v) (Ok w) h k = ap told (one place.places place.limit (Ok v) (Ok w) h.1 k.1)
+once place text one (Ok v) (Err (Number e)) h k = ap told (one place.places place.limit (Ok v) (Err e) h.1 k.1)
+once place text one (Err (Number e)) (Ok w) h k = ap told (one place.places place.limit (Err e) (Ok w) h.1 k.1)
+once place text one (Err (Number e)) (Err (Number f)) h k = ap told (one place.places place.limit (Err e) (Err f) h.1 k.1)
+once place text one (Err Syntax) (Err Syntax) h k = refl
+once place text one (Err Syntax) (Ok w) h k = absurd (k.0 h)
+once place text one (Err Syntax) (Err (Number f)) h k = absurd (k.0 h)
+once place text one (Ok v) (Err Syntax) h k = absurd (h.0 k)
+once place text one (Err (Number e)) (Err Syntax) h k = absurd (h.0 k)
+
+pub number_once : (place : NumberPlace) (text : List ℕ) (r s : Result ℤ Refused) → HasOne Decimal text → HasOne Scaled text → HasOne Integer text →
+    IsNumberAt place text r → IsNumberAt place text s → r ≡ s
+number_once place text r s decimal spice integer h k = once place text (one_by place.form text decimal spice integer) r s h k

@@ -6,7 +6,7 @@ mod laws;
 mod number;
 mod place;
 
-pub use laws::values_fit_their_places;
+pub use laws::{texts_have_one_number, values_fit_their_places};
 pub use number::{number_at, small_number_at};
 pub use place::{NumberForm, NumberPlace, NumberSign, Refused};
 

@@ -1,5 +1,7 @@
 use Rattle.fixed_decimal.specs.Number.{IsDecimal}
 use Rattle.fixed_decimal.specs.Spice.{IsSpice}
+use Rattle.fixed_decimal.specs.Integer.{IsInteger}
+use Rattle.fixed_decimal.proofs.Integers.{integer_unique}
 use Rattle.fixed_decimal.proofs.TextLaws.{answer_once, decimal_unique, spice_unique, decimal_reads_once, spice_reads_once}
 use Rattle.fixed_decimal.proofs.laws.texts_have_one_answer.Goals as goal
 
@@ -14,3 +16,6 @@ returns-clause-decimal_reads c = decimal_reads_once
 
 pub returns-clause-spice_reads : goal.returns-clause-spice_reads
 returns-clause-spice_reads c = spice_reads_once
+
+pub returns-clause-integer : goal.returns-clause-integer
+returns-clause-integer c = λ places limit text. answer_once IsInteger places limit text (integer_unique text)

@@ -1,9 +1,0 @@
-pub mod Sorts
-pub mod Sections
-pub mod Lines
-pub mod Numbers
-pub mod Faults
-pub mod Record
-pub mod Limits
-pub mod Reading
-pub mod Held

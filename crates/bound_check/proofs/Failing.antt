@@ -44,7 +44,7 @@ limit_out limit z e =
 limit_in : (limit : ℕ) (z : ℤ) → IsInLimit limit z → in_limit limit z ≡ true
 limit_in limit z h = true_both (le_z (neg_ℤ (pos limit)) z) (le_z z (pos limit)) (le_in (neg_ℤ (pos limit)) z h.0) (le_in z (pos limit) h.1)
 
--- two tests, high before low
+-- Two tests, high before low.
 two_pass : (a b : Bool) (node node' : ℕ) (side side' : Side) (found found' : ℤ) → or_else (unless a node side found) (unless b node' side' found') ≡ None → (a ≡ true) × (b ≡ true)
 two_pass a b node node' side side' found found' e = (
   passes a node side found (none_first (unless a node side found) (unless b node' side' found') e),
@@ -65,16 +65,16 @@ module _ (net : Network) (high low : ℕ → ℤ) where
 
   flow_out : (r : Resistor) → flow_test high low r ≡ None → IsInLimit flow_limit (floor_div (high r.a -ℤ high r.b) r.ohms) × IsInLimit flow_limit (ceil_div (low r.a -ℤ low r.b) r.ohms)
   flow_out r e =
-      let up = floor_div (high r.a -ℤ high r.b) r.ohms in
-      let down = ceil_div (low r.a -ℤ low r.b) r.ohms in
-      let b = two_pass (in_limit flow_limit up) (in_limit flow_limit down) r.a r.a HighFlow LowFlow up down e in
-      (limit_out flow_limit up b.0, limit_out flow_limit down b.1)
+      let of_high = floor_div (high r.a -ℤ high r.b) r.ohms in
+      let of_low = ceil_div (low r.a -ℤ low r.b) r.ohms in
+      let b = two_pass (in_limit flow_limit of_high) (in_limit flow_limit of_low) r.a r.a HighFlow LowFlow of_high of_low e in
+      (limit_out flow_limit of_high b.0, limit_out flow_limit of_low b.1)
 
   flow_in : (r : Resistor) → IsInLimit flow_limit (floor_div (high r.a -ℤ high r.b) r.ohms) → IsInLimit flow_limit (ceil_div (low r.a -ℤ low r.b) r.ohms) → flow_test high low r ≡ None
   flow_in r h k =
-      let up = floor_div (high r.a -ℤ high r.b) r.ohms in
-      let down = ceil_div (low r.a -ℤ low r.b) r.ohms in
-      two_passed (in_limit flow_limit up) (in_limit flow_limit down) r.a r.a HighFlow LowFlow up down (limit_in flow_limit up h) (limit_in flow_limit down k)
+      let of_high = floor_div (high r.a -ℤ high r.b) r.ohms in
+      let of_low = ceil_div (low r.a -ℤ low r.b) r.ohms in
+      two_passed (in_limit flow_limit of_high) (in_limit flow_limit of_low) r.a r.a HighFlow LowFlow of_high of_low (limit_in flow_limit of_high h) (limit_in flow_limit of_low k)
 
   pad_out : (i : ℕ) (v : ℤ) → sum_test net high low i (Some v) ≡ None → (v ≤ℤ high i) × (low i ≤ℤ v)
   pad_out i v e =
@@ -94,7 +94,7 @@ module _ (net : Network) (high low : ℕ → ℤ) where
   sum_in : (i : ℕ) → pos 1 ≤ℤ high_sum net high i → low_sum net low i ≤ℤ negsuc 0 → sum_test net high low i None ≡ None
   sum_in i h k = two_passed (le_z (pos 1) (high_sum net high i)) (le_z (low_sum net low i) (negsuc 0)) i i High Low (high_sum net high i) (low_sum net low i) (le_in (pos 1) (high_sum net high i) h) (le_in (low_sum net low i) (negsuc 0) k)
 
-  -- what a round without a failing test says
+  -- What a round without a failing test says.
   module _ (none : sums_round net high low ≡ None) where
     at_node : (i : ℕ) → i < net.nodes → (o : Option ℤ) → pad_at net i ≡ o → sum_test net high low i o ≡ None
     at_node i l o e = ap (sum_test net high low i) (sym e) ∙ none_below net.nodes (λ j. sum_test net high low j (pad_at net j)) none i l
@@ -112,66 +112,66 @@ module _ (net : Network) (high low : ℕ → ℤ) where
     }
 
   pub sums_pass : HighHolds net high → LowHolds net low → sums_round net high low ≡ None
-  sums_pass up down = below_none net.nodes (λ j. sum_test net high low j (pad_at net j)) (λ i l. by_pad i l (pad_at net i) refl)
+  sums_pass of_high of_low = below_none net.nodes (λ j. sum_test net high low j (pad_at net j)) (λ i l. by_pad i l (pad_at net i) refl)
     where
       by_pad : (i : ℕ) → i < net.nodes → (o : Option ℤ) → pad_at net i ≡ o → sum_test net high low i (pad_at net i) ≡ None
-      by_pad i l None e = ap (sum_test net high low i) e ∙ sum_in i (up.sums i l e) (down.sums i l e)
-      by_pad i l (Some v) e = ap (sum_test net high low i) e ∙ pad_in i v (up.pads i v l e) (down.pads i v l e)
+      by_pad i l None e = ap (sum_test net high low i) e ∙ sum_in i (of_high.sums i l e) (of_low.sums i l e)
+      by_pad i l (Some v) e = ap (sum_test net high low i) e ∙ pad_in i v (of_high.pads i v l e) (of_low.pads i v l e)
 
 module _ (net : Network) (high low : List ℤ) where
-  abbrev up_list : ℕ → ℤ
-  up_list = entry_of high
+  abbrev high_list : ℕ → ℤ
+  high_list = entry_of high
 
-  abbrev down_list : ℕ → ℤ
-  down_list = entry_of low
+  abbrev low_list : ℕ → ℤ
+  low_list = entry_of low
 
   pub passes_from_none : first_failing net high low ≡ None → IsCertificate net high low
   passes_from_none e =
-      let values = none_first (values_round net up_list down_list) (or_else (flows_round net up_list down_list) (sums_round net up_list down_list)) e in
-      let rest = none_second (values_round net up_list down_list) (or_else (flows_round net up_list down_list) (sums_round net up_list down_list)) e in
-      let flows = none_of (flow_test up_list down_list) net.resistors (none_first (flows_round net up_list down_list) (sums_round net up_list down_list) rest) in
-      let sums = none_second (flows_round net up_list down_list) (sums_round net up_list down_list) rest in
+      let values = none_first (values_round net high_list low_list) (or_else (flows_round net high_list low_list) (sums_round net high_list low_list)) e in
+      let rest = none_second (values_round net high_list low_list) (or_else (flows_round net high_list low_list) (sums_round net high_list low_list)) e in
+      let flows = none_of (flow_test high_list low_list) net.resistors (none_first (flows_round net high_list low_list) (sums_round net high_list low_list) rest) in
+      let sums = none_second (flows_round net high_list low_list) (sums_round net high_list low_list) rest in
       record {
         high_half = record {
-          values = λ i l. (value_out net up_list down_list i (none_below net.nodes (value_test up_list down_list) values i l)).0;
-          flows = λ k d l. (flow_out net up_list down_list (get_or net.resistors k d) (flows k d l)).0;
-          holds = high_from_sums net up_list down_list sums;
+          values = λ i l. (value_out net high_list low_list i (none_below net.nodes (value_test high_list low_list) values i l)).0;
+          flows = λ k d l. (flow_out net high_list low_list (get_or net.resistors k d) (flows k d l)).0;
+          holds = high_from_sums net high_list low_list sums;
         };
         low_half = record {
-          values = λ i l. (value_out net up_list down_list i (none_below net.nodes (value_test up_list down_list) values i l)).1;
-          flows = λ k d l. (flow_out net up_list down_list (get_or net.resistors k d) (flows k d l)).1;
-          holds = low_from_sums net up_list down_list sums;
+          values = λ i l. (value_out net high_list low_list i (none_below net.nodes (value_test high_list low_list) values i l)).1;
+          flows = λ k d l. (flow_out net high_list low_list (get_or net.resistors k d) (flows k d l)).1;
+          holds = low_from_sums net high_list low_list sums;
         };
       }
 
   pub none_from_passes : IsCertificate net high low → first_failing net high low ≡ None
   none_from_passes cert =
-      none_both (values_round net up_list down_list) (or_else (flows_round net up_list down_list) (sums_round net up_list down_list))
-      (below_none net.nodes (value_test up_list down_list) (λ i l. value_in net up_list down_list i (cert.high_half.values i l) (cert.low_half.values i l)))
-      (none_both (flows_round net up_list down_list) (sums_round net up_list down_list)
-      (of_none (flow_test up_list down_list) net.resistors (λ k d l. flow_in net up_list down_list (get_or net.resistors k d) (cert.high_half.flows k d l) (cert.low_half.flows k d l)))
-      (sums_pass net up_list down_list cert.high_half.holds cert.low_half.holds))
+      none_both (values_round net high_list low_list) (or_else (flows_round net high_list low_list) (sums_round net high_list low_list))
+      (below_none net.nodes (value_test high_list low_list) (λ i l. value_in net high_list low_list i (cert.high_half.values i l) (cert.low_half.values i l)))
+      (none_both (flows_round net high_list low_list) (sums_round net high_list low_list)
+      (of_none (flow_test high_list low_list) net.resistors (λ k d l. flow_in net high_list low_list (get_or net.resistors k d) (cert.high_half.flows k d l) (cert.low_half.flows k d l)))
+      (sums_pass net high_list low_list cert.high_half.holds cert.low_half.holds))
 
 -- ---- what a round without a failing test says of the lists
 module _ (net : Network) (high low : List ℤ) where
-  abbrev up_of : ℕ → ℤ
-  up_of = entry_of high
+  abbrev high_of : ℕ → ℤ
+  high_of = entry_of high
 
-  abbrev down_of : ℕ → ℤ
-  down_of = entry_of low
+  abbrev low_of : ℕ → ℤ
+  low_of = entry_of low
 
-  pub values_of_high : length high ≡ net.nodes → values_round net up_of down_of ≡ None → All (IsInLimit value_limit) high
+  pub values_of_high : length high ≡ net.nodes → values_round net high_of low_of ≡ None → All (IsInLimit value_limit) high
   values_of_high size none = λ k d l.
-      let v = (value_out net up_of down_of k (none_below net.nodes (value_test up_of down_of) none k (omega (arith, size)))).0 in
+      let v = (value_out net high_of low_of k (none_below net.nodes (value_test high_of low_of) none k (omega (arith, size)))).0 in
       subst (IsInLimit value_limit) (get_or_default high k (pos 0) d l) v
 
-  pub values_of_low : length low ≡ net.nodes → values_round net up_of down_of ≡ None → All (IsInLimit value_limit) low
+  pub values_of_low : length low ≡ net.nodes → values_round net high_of low_of ≡ None → All (IsInLimit value_limit) low
   values_of_low size none = λ k d l.
-      let v = (value_out net up_of down_of k (none_below net.nodes (value_test up_of down_of) none k (omega (arith, size)))).1 in
+      let v = (value_out net high_of low_of k (none_below net.nodes (value_test high_of low_of) none k (omega (arith, size)))).1 in
       subst (IsInLimit value_limit) (get_or_default low k (pos 0) d l) v
 
-  pub flows_of_high : flows_round net up_of down_of ≡ None → FlowsWithin floor_div net flow_limit up_of
-  flows_of_high none = λ k d l. (flow_out net up_of down_of (get_or net.resistors k d) (none_of (flow_test up_of down_of) net.resistors none k d l)).0
+  pub flows_of_high : flows_round net high_of low_of ≡ None → FlowsWithin floor_div net flow_limit high_of
+  flows_of_high none = λ k d l. (flow_out net high_of low_of (get_or net.resistors k d) (none_of (flow_test high_of low_of) net.resistors none k d l)).0
 
-  pub flows_of_low : flows_round net up_of down_of ≡ None → FlowsWithin ceil_div net flow_limit down_of
-  flows_of_low none = λ k d l. (flow_out net up_of down_of (get_or net.resistors k d) (none_of (flow_test up_of down_of) net.resistors none k d l)).1
+  pub flows_of_low : flows_round net high_of low_of ≡ None → FlowsWithin ceil_div net flow_limit low_of
+  flows_of_low none = λ k d l. (flow_out net high_of low_of (get_or net.resistors k d) (none_of (flow_test high_of low_of) net.resistors none k d l)).1

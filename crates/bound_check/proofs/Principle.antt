@@ -13,7 +13,7 @@ use Rattle.bound_check.specs.Certified.{least_current, greatest_current}
 use Rattle.rounding.specs.Laws.{times_le, times_le_out, times_swap, times_difference, times_sum, times_neg, floor_is, greatest_of}
 use Rattle.grid_net.specs.Laws.Sums.{taken_le, taken_times}
 
--- the current through a resistance is at least q times the floored flow, if its first end is as far above the bound as any
+-- The current through a resistance is at least q times the floored flow, if its first end is as far above the bound as any.
 current_above : (q : ℕ) (R P P' X X' c : ℤ) → pos 1 ≤ℤ R → P -ℤ P' ≡ R *ℤ c → (P' -ℤ pos q *ℤ X') ≤ℤ (P -ℤ pos q *ℤ X) → (pos q *ℤ floor_div (X -ℤ X') R) ≤ℤ c
 current_above q R P P' X X' c pos_R ohm top =
     let f = floor_is (X -ℤ X') R pos_R in
@@ -22,12 +22,12 @@ current_above q R P P' X X' c pos_R ohm top =
     let d = times_difference (pos q) X X' in
     times_le_out R (pos q *ℤ floor_div (X -ℤ X') R) c pos_R (omega (arith, ints, a, s, d, ohm, top))
 
--- Ohm's law at each of a list of resistors
+-- Ohm's law at each of a list of resistors.
 Ohm : List Resistor → (ℕ → ℤ) → (ℕ → ℤ) → Type 0
 Ohm rs p c = (k : ℕ) (d : Resistor) → k < length rs → p (get_or rs k d).a -ℤ p (get_or rs k d).b ≡ (get_or rs k d).ohms *ℤ c k
 
 module _ (n : ℕ) (q : ℕ) (p x : ℕ → ℤ) (i : ℕ) where
-  -- where p is farthest above q times a list, the currents leave faster than q times its floored flows
+  -- Where p is farthest above q times a list, the currents leave faster than q times its floored flows.
   floors_below : (rs : List Resistor) (c : ℕ → ℤ) → All (IsResistorOf n) rs → Ohm rs p c → ((j : ℕ) → j < n → (p j -ℤ pos q *ℤ x j) ≤ℤ (p i -ℤ pos q *ℤ x i)) → (pos q *ℤ outflow floor_div rs x i) ≤ℤ net_current rs c i
   unfolding Ohm
   floors_below [] c all ohm top = omega (arith, ints)

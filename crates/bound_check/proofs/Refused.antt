@@ -49,7 +49,7 @@ module _ (net : Network) (high low : ℕ → ℤ) where
   abbrev IsTrue : Fails → Type 0
   IsTrue f = IsFailing net high low f.node f.side f.found
 
-  -- one of two tests
+  -- One of two tests.
   one_of : (f : Fails) (a b : Bool) (node node' : ℕ) (side side' : Side) (found found' : ℤ) → or_else (unless a node side found) (unless b node' side' found') ≡ Some f → (a ≡ false → IsFailing net high low node side found) → (b ≡ false → IsFailing net high low node' side' found') → IsTrue f
   one_of f a b node node' side side' found found' e h k = elim (either_found (unless a node side found) (unless b node' side' found') f e) [
     | inl g ↦ (let n = named a node side found f g in subst IsTrue (sym n.1) (h n.0))
@@ -64,11 +64,11 @@ module _ (net : Network) (high low : ℕ → ℤ) where
 
   flow_named : (f : Fails) (k : ℕ) → k < length net.resistors → (r : Resistor) → ((d : Resistor) → get_or net.resistors k d ≡ r) → flow_test high low r ≡ Some f → IsTrue f
   flow_named f k l r is e =
-      let up = floor_div (high r.a -ℤ high r.b) r.ohms in
-      let down = ceil_div (low r.a -ℤ low r.b) r.ohms in
-      one_of f (in_limit flow_limit up) (in_limit flow_limit down) r.a r.a HighFlow LowFlow up down e
-      (λ out. ((k, l, λ d. (ap (λ (x : Resistor). x.a) (is d), ap (λ (x : Resistor). floor_div (high x.a -ℤ high x.b) x.ohms) (sym (is d)))), outside flow_limit up out))
-      (λ out. ((k, l, λ d. (ap (λ (x : Resistor). x.a) (is d), ap (λ (x : Resistor). ceil_div (low x.a -ℤ low x.b) x.ohms) (sym (is d)))), outside flow_limit down out))
+      let of_high = floor_div (high r.a -ℤ high r.b) r.ohms in
+      let of_low = ceil_div (low r.a -ℤ low r.b) r.ohms in
+      one_of f (in_limit flow_limit of_high) (in_limit flow_limit of_low) r.a r.a HighFlow LowFlow of_high of_low e
+      (λ out. ((k, l, λ d. (ap (λ (x : Resistor). x.a) (is d), ap (λ (x : Resistor). floor_div (high x.a -ℤ high x.b) x.ohms) (sym (is d)))), outside flow_limit of_high out))
+      (λ out. ((k, l, λ d. (ap (λ (x : Resistor). x.a) (is d), ap (λ (x : Resistor). ceil_div (low x.a -ℤ low x.b) x.ohms) (sym (is d)))), outside flow_limit of_low out))
 
   sum_named : (f : Fails) (i : ℕ) → i < net.nodes → (o : Option ℤ) → pad_at net i ≡ o → sum_test net high low i o ≡ Some f → IsTrue f
   sum_named f i l (Some v) pad e =

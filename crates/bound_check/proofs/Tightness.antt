@@ -9,7 +9,7 @@ use Rattle.grid_net.specs.Certificate.{IsTight, IsRising}
 use Rattle.grid_net.specs.Laws.Loads.{load_in_order}
 use Rattle.rounding.specs.Laws.{times_lt_out, times_next, times_last, times_difference, times_sum, times_neg, floor_is, ceiling_is, floor_unique, ceiling_unique, greatest_of}
 
--- no difference gives no flow
+-- No difference gives no flow.
 floor_none : (x y R : ℤ) → pos 1 ≤ℤ R → x ≡ y → floor_div (x -ℤ y) R ≡ pos 0
 floor_none x y R h e = floor_unique (x -ℤ y) R (floor_div (x -ℤ y) R) (pos 0) h (floor_is (x -ℤ y) R h) (record { reached = omega (arith, ints); next_is_above = omega (arith, ints) })
 
@@ -18,7 +18,7 @@ ceiling_none x y R h e =
     let n = times_neg R (pos 1) in
     ceiling_unique (x -ℤ y) R (ceil_div (x -ℤ y) R) (pos 0) h (ceiling_is (x -ℤ y) R h) (record { reaches = omega (arith, ints); last_is_below = omega (arith, ints, n) })
 
--- the floored flow less the ceiled flow is at least the rising list's floored flow less 1
+-- The floored flow less the ceiled flow is at least the rising list's floored flow less 1.
 flow_loss : (R H H' L L' W W' : ℤ) → pos 1 ≤ℤ R → ((H' -ℤ L') -ℤ W') ≤ℤ ((H -ℤ L) -ℤ W)
     → (floor_div (W -ℤ W') R -ℤ pos 1) ≤ℤ (floor_div (H -ℤ H') R -ℤ ceil_div (L -ℤ L') R)
 flow_loss R H H' L L' W W' h top =
@@ -35,7 +35,7 @@ flow_loss R H H' L L' W W' h top =
     let below : V <ℤ ((F -ℤ C) +ℤ pos 2) = times_lt_out R V ((F -ℤ C) +ℤ pos 2) h (omega (arith, ints, f.next_is_above, g.last_is_below, k.reached, a, b, d, s)) in
     omega (arith, ints, below)
 
--- over the two ends of one resistor that may stand at the node, one unit is lost at most
+-- Over the two ends of one resistor that may stand at the node, one unit is lost at most.
 ends_loss : (s t : Bool) (F G C D V U : ℤ)
     → (s ≡ true → (V -ℤ pos 1) ≤ℤ (F -ℤ C)) → (t ≡ true → (U -ℤ pos 1) ≤ℤ (G -ℤ D))
     → (s ≡ true → t ≡ true → (V +ℤ U) ≤ℤ ((F +ℤ G) -ℤ (C +ℤ D)))
@@ -46,7 +46,7 @@ ends_loss false true F G C D V U a b both = omega (arith, ints, b refl)
 ends_loss false false F G C D V U a b both = omega (arith, ints)
 
 module _ (n : ℕ) (x y w : ℕ → ℤ) (i : ℕ) (top : (j : ℕ) → j < n → ((x j -ℤ y j) -ℤ w j) ≤ℤ ((x i -ℤ y i) -ℤ w i)) where
-  -- where the gap less the rising list is greatest, the floored flows less the ceiled flows are at least the rising list's flows less the degree
+  -- Where the gap less the rising list is greatest, the floored flows less the ceiled flows are at least the rising list's flows less the degree.
   sums_loss : (rs : List Resistor) → All (IsResistorOf n) rs → (outflow floor_div rs w i -ℤ pos (degree rs i)) ≤ℤ (outflow floor_div rs x i -ℤ outflow ceil_div rs y i)
   sums_loss [] all = omega (arith, ints)
   sums_loss (r ∷ rs) all =
@@ -64,7 +64,7 @@ module _ (n : ℕ) (x y w : ℕ → ℤ) (i : ℕ) (top : (j : ℕ) → j < n �
       self_loss r h e =
           omega (arith, ints, floor_none (w r.a) (w r.b) r.ohms h (ap w e), floor_none (w r.b) (w r.a) r.ohms h (ap w (sym e)), floor_none (x r.a) (x r.b) r.ohms h (ap x e), floor_none (x r.b) (x r.a) r.ohms h (ap x (sym e)), ceiling_none (y r.a) (y r.b) r.ohms h (ap y e), ceiling_none (y r.b) (y r.a) r.ohms h (ap y (sym e)))
 
--- a node without resistors has no flow
+-- A node without resistors has no flow.
 no_ends : (s t : Bool) (u v : ℤ) (m : ℕ) → cond (s || t) 1 0 + m ≡ 0 → (cond s u (pos 0) +ℤ cond t v (pos 0) ≡ pos 0) × (m ≡ 0)
 no_ends true t u v m e = absurd (omega arith)
 no_ends false true u v m e = absurd (omega arith)

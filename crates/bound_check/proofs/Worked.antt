@@ -17,7 +17,7 @@ IsRange l = l.low ≤ℤ l.high
 pub example_is_network : IsNetwork example
 example_is_network = record { each_resistor = All-cons (IsResistorOf 2) (record { a = 1; b = 0; ohms = pos 1000000000 }) [] (record { a_is_node = omega arith; b_is_node = omega arith; resists = omega (arith, ints) }) (All-nil (IsResistorOf 2)); each_load = All-cons IsRange (record { low = pos 1000000000000; high = pos 1000000000000 }) (record { low = pos 0; high = pos 0 } ∷ []) (omega (arith, ints)) (All-cons IsRange (record { low = pos 0; high = pos 0 }) [] (omega (arith, ints)) (All-nil IsRange)) }
 
--- what holds at node 1, where the pad stands, and at node 0
+-- What holds at node 1, where the pad stands, and at node 0.
 at_pads : (P : ℕ → ℤ → Type 0) → P 1 (pos 1000000000000000000000000) → (i : ℕ) (v : ℤ) → i < 2 → pad_at example i ≡ Some v → P i v
 at_pads P h zero v l e = cc
 at_pads P h (suc zero) v l e = let same : pos 1000000000000000000000000 ≡ v = cc in subst (P 1) same h

@@ -31,7 +31,8 @@ fn first_failure(net: &Net, high: &[i128], low: &[i128]) -> Option<Fails>
 
 /// The test of a certificate: a high and a low voltage for each node, in yoctovolts. It takes no memory.
 ///
-/// The values are tested first, then the flows of the resistors, then the sums of the nodes, each in order and high before low; the first test that fails is named.
+/// The values are tested first, then the flows of the resistors, then the sums of the nodes, each in order and high
+/// before low; the first test that fails is named.
 /// Where all pass, each solution of the network lies between the two lists at each node.
 pub fn is_certificate(net: &Net, high: &[i128], low: &[i128]) -> Result<(), Fails>
     requires high_size { length high.now ≡ net.now.nodes }
@@ -39,7 +40,8 @@ pub fn is_certificate(net: &Net, high: &[i128], low: &[i128]) -> Result<(), Fail
     ensures ok { IsOk result ↔ IsCertificate net.now high.now low.now }
     ensures first { IfErr result (λ f. first_failing net.now high.now low.now ≡ Some f) }
     ensures fails { IfErr result (λ f. IsFailing net.now (entry_of high.now) (entry_of low.now) f.node f.side f.found) }
-    ensures bounds { IsOk result → (q : ℕ) (p c drawn : ℕ → ℤ) → IsSolution net.now q p c drawn → (i : ℕ) → i < net.now.nodes → ((pos q *ℤ entry_of low.now i) ≤ℤ p i) × (p i ≤ℤ (pos q *ℤ entry_of high.now i)) }
+    ensures bounds { IsOk result → (q : ℕ) (p c drawn : ℕ → ℤ) → IsSolution net.now q p c drawn → (i : ℕ)
+        → i < net.now.nodes → ((pos q *ℤ entry_of low.now i) ≤ℤ p i) × (p i ≤ℤ (pos q *ℤ entry_of high.now i)) }
 {
     let _nodes = net.nodes();
     match first_failure(net, high, low) {

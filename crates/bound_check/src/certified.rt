@@ -19,8 +19,10 @@ pub const NANOAMPERE: i128 = 1_000_000;
 
 /// A network with a tight certificate of it.
 ///
-/// Every solution of Ohm's and Kirchhoff's laws on the network, for every load within its range, lies within the bounds that
-/// `voltage` and `current` tell, at each node and resistor. No certificate that is made in another way is kept: both tests
+/// Every solution of Ohm's and Kirchhoff's laws on the network, for every load within its range, lies within the
+/// bounds that
+/// `voltage` and `current` tell, at each node and resistor. No certificate that is made in another way is kept: both
+/// tests
 /// hold of each value of this type.
 #[derive(Drop)]
 pub struct Certified {
@@ -37,7 +39,8 @@ impl Model for Certified {
 
     ghost view = { λ c. record { net = c.net; high = c.high.items; low = c.low.items; sweeps = c.sweeps } };
 
-    ghost invariant = { λ c. IsKept (record { net = c.net; high = c.high.items; low = c.low.items; sweeps = c.sweeps }) };
+    ghost invariant = { λ c. IsKept
+        (record { net = c.net; high = c.high.items; low = c.low.items; sweeps = c.sweeps }) };
 }
 
 /// What flows at least and at most from end a to end b of a resistor, by two lists, in femtoamperes.
@@ -57,7 +60,8 @@ fn current_between(r: &Resistor, high: &[i128], low: &[i128]) -> (i128, i128)
 }
 
 impl Certified {
-    /// Keeps a network with two lists that are a tight certificate of it, and the number of sweeps in which they were made,
+    /// Keeps a network with two lists that are a tight certificate of it, and the number of sweeps in which they were
+    /// made,
     /// of which nothing is asked. It takes no memory.
     pub fn keep(net: Net, high: Vec<i128>, low: Vec<i128>, sweeps: u64) -> Certified
         requires high_size { length high.items ≡ net.nodes }
@@ -87,7 +91,8 @@ impl Certified {
         ensures size { length result.now ≡ self.now.net.nodes }
         ensures certificate { IsCertificate self.now.net self.now.high self.now.low }
         ensures tight { IsTight self.now.net self.now.high self.now.low }
-        ensures bounds { (q : ℕ) (p c drawn : ℕ → ℤ) → IsSolution self.now.net q p c drawn → (i : ℕ) → i < self.now.net.nodes
+        ensures bounds { (q : ℕ) (p c drawn : ℕ → ℤ) → IsSolution self.now.net q p c drawn → (i : ℕ)
+            → i < self.now.net.nodes
             → p i ≤ℤ (pos q *ℤ entry_of self.now.high i) }
         // The two lists are no farther apart than any rising list.
         ensures width { (w : ℕ → ℤ) → IsRising self.now.net w → (i : ℕ) → i < self.now.net.nodes
@@ -103,7 +108,8 @@ impl Certified {
         ensures size { length result.now ≡ self.now.net.nodes }
         ensures certificate { IsCertificate self.now.net self.now.high self.now.low }
         ensures tight { IsTight self.now.net self.now.high self.now.low }
-        ensures bounds { (q : ℕ) (p c drawn : ℕ → ℤ) → IsSolution self.now.net q p c drawn → (i : ℕ) → i < self.now.net.nodes
+        ensures bounds { (q : ℕ) (p c drawn : ℕ → ℤ) → IsSolution self.now.net q p c drawn → (i : ℕ)
+            → i < self.now.net.nodes
             → (pos q *ℤ entry_of self.now.low i) ≤ℤ p i }
         ensures width { (w : ℕ → ℤ) → IsRising self.now.net w → (i : ℕ) → i < self.now.net.nodes
             → (entry_of self.now.high i -ℤ entry_of self.now.low i) ≤ℤ w i }
@@ -124,9 +130,11 @@ impl Certified {
         requires { node < self.now.net.nodes }
         ensures low { result.0 ≡ floor_div (entry_of self.now.low node) (pos nanovolt) }
         ensures high { result.1 ≡ ceil_div (entry_of self.now.high node) (pos nanovolt) }
-        ensures bounds { (q : ℕ) (p c drawn : ℕ → ℤ) → IsSolution self.now.net q p c drawn → LiesWithin nanovolt q (p node) result }
+        ensures bounds { (q : ℕ) (p c drawn : ℕ → ℤ) → IsSolution self.now.net q p c drawn
+            → LiesWithin nanovolt q (p node) result }
         // They are less than 2 nanovolts farther apart than any rising list tells.
-        ensures width { (w : ℕ → ℤ) → IsRising self.now.net w → (pos nanovolt *ℤ ((result.1 -ℤ result.0) -ℤ pos 2)) <ℤ w node }
+        ensures width { (w : ℕ → ℤ) → IsRising self.now.net w
+            → (pos nanovolt *ℤ ((result.1 -ℤ result.0) -ℤ pos 2)) <ℤ w node }
     {
         let _nodes = self.net.nodes();
         let low = div_floor(self.low[node as usize], NANOVOLT);
@@ -134,7 +142,8 @@ impl Certified {
         (low, high)
     }
 
-    /// Between which two currents from its end a to its end b a resistor lies in every solution, in nanoamperes and rounded
+    /// Between which two currents from its end a to its end b a resistor lies in every solution, in nanoamperes and
+    /// rounded
     /// outward, the lower one first.
     pub fn current(&self, resistor: u32) -> (i128, i128)
         requires { resistor < length self.now.net.resistors }

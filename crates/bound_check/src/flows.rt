@@ -12,25 +12,28 @@ use grid_net::Resistor;
 use rounding::{div_ceil, div_floor};
 
 /// The test of the flows of a resistor by its two differences, where a division has to decide it.
-fn divided_failure(node: u32, up: i128, down: i128, ohms: i128) -> Option<Fails>
+fn divided_failure(node: u32, high: i128, low: i128, ohms: i128) -> Option<Fails>
     requires { pos 1 ≤ℤ ohms }
-    ensures { result ≡ or_else (unless (in_limit flow_limit (floor_div up ohms)) node HighFlow (floor_div up ohms)) (unless (in_limit flow_limit (ceil_div down ohms)) node LowFlow (ceil_div down ohms)) }
+    ensures { result ≡ or_else (unless (in_limit flow_limit (floor_div high ohms)) node HighFlow (floor_div high ohms))
+        (unless (in_limit flow_limit (ceil_div low ohms)) node LowFlow (ceil_div low ohms)) }
 {
-    let up = div_floor(up, ohms);
-    let down = div_ceil(down, ohms);
-    let first = unless_passes(flow_fits(up), node, Side::HighFlow, up);
-    first.or(unless_passes(flow_fits(down), node, Side::LowFlow, down))
+    let high = div_floor(high, ohms);
+    let low = div_ceil(low, ohms);
+    let first = unless_passes(flow_fits(high), node, Side::HighFlow, high);
+    first.or(unless_passes(flow_fits(low), node, Side::LowFlow, low))
 }
 
-/// The test of the flows of a resistor by its two differences. A difference that is itself within the limit of flows has a flow within it, and takes no division.
-fn difference_failure(node: u32, up: i128, down: i128, ohms: i128) -> Option<Fails>
+/// The test of the flows of a resistor by its two differences. A difference that is itself within the limit of flows
+/// has a flow within it, and takes no division.
+fn difference_failure(node: u32, high: i128, low: i128, ohms: i128) -> Option<Fails>
     requires { pos 1 ≤ℤ ohms }
-    ensures { result ≡ or_else (unless (in_limit flow_limit (floor_div up ohms)) node HighFlow (floor_div up ohms)) (unless (in_limit flow_limit (ceil_div down ohms)) node LowFlow (ceil_div down ohms)) }
+    ensures { result ≡ or_else (unless (in_limit flow_limit (floor_div high ohms)) node HighFlow (floor_div high ohms))
+        (unless (in_limit flow_limit (ceil_div low ohms)) node LowFlow (ceil_div low ohms)) }
 {
-    if flow_fits(up) && flow_fits(down) {
+    if flow_fits(high) && flow_fits(low) {
         None
     } else {
-        divided_failure(node, up, down, ohms)
+        divided_failure(node, high, low, ohms)
     }
 }
 
@@ -42,9 +45,9 @@ fn flow_failure(r: &Resistor, high: &[i128], low: &[i128]) -> Option<Fails>
     requires low_values { All (IsInLimit value_limit) low.now }
     ensures { result ≡ flow_test (entry_of high.now) (entry_of low.now) r.now }
 {
-    let up = high[r.a as usize] - high[r.b as usize];
-    let down = low[r.a as usize] - low[r.b as usize];
-    difference_failure(r.a, up, down, r.ohms)
+    let high_difference = high[r.a as usize] - high[r.b as usize];
+    let low_difference = low[r.a as usize] - low[r.b as usize];
+    difference_failure(r.a, high_difference, low_difference, r.ohms)
 }
 
 /// The second round of the test: the first flow out of its limit, over all resistors.

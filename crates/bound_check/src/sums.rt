@@ -40,7 +40,8 @@ pub fn outflow_of(
     requires node_in { node < length x.now }
     requires ends { All (IsResistorOf (length x.now)) resistors.now }
     requires values { All (IsInLimit value_limit) x.now }
-    requires flows { All (λ r. IsInLimit flow_limit (quotient round (entry_of x.now r.a -ℤ entry_of x.now r.b) r.ohms)) resistors.now }
+    requires flows { All (λ r. IsInLimit flow_limit (quotient round
+        (entry_of x.now r.a -ℤ entry_of x.now r.b) r.ohms)) resistors.now }
     ensures value { result ≡ outflow (quotient round) resistors.now (entry_of x.now) node }
     ensures within { IsInLimit (10 ^ 38) result }
 {
@@ -54,7 +55,8 @@ pub fn outflow_of(
 
 /// The test of the two sums of a node that is no pad, high before low.
 fn total_failure(node: u32, high: i128, low: i128) -> Option<Fails>
-    ensures { result ≡ or_else (unless (int_le (pos 1) high) node High high) (unless (int_le low (negsuc 0)) node Low low) }
+    ensures { result ≡ or_else (unless (int_le (pos 1) high) node High high)
+        (unless (int_le low (negsuc 0)) node Low low) }
 {
     let first = unless_passes(1 <= high, node, Side::High, high);
     first.or(unless_passes(low <= -1, node, Side::Low, low))
@@ -62,7 +64,8 @@ fn total_failure(node: u32, high: i128, low: i128) -> Option<Fails>
 
 /// The test of how far the entries of a pad's node are above its voltage, high before low.
 fn entry_failure(node: u32, high: i128, low: i128) -> Option<Fails>
-    ensures { result ≡ or_else (unless (int_le (pos 0) high) node High high) (unless (int_le low (pos 0)) node Low low) }
+    ensures { result ≡ or_else (unless (int_le (pos 0) high) node High high)
+        (unless (int_le low (pos 0)) node Low low) }
 {
     let first = unless_passes(0 <= high, node, Side::High, high);
     first.or(unless_passes(low <= 0, node, Side::Low, low))
@@ -73,7 +76,8 @@ fn pad_failure(node: u32, volts: i128, high: i128, low: i128) -> Option<Fails>
     requires volts { IsInLimit greatest_voltage volts }
     requires high { IsInLimit value_limit high }
     requires low { IsInLimit value_limit low }
-    ensures { result ≡ or_else (unless (int_le (pos 0) (high -ℤ volts)) node High (high -ℤ volts)) (unless (int_le (low -ℤ volts) (pos 0)) node Low (low -ℤ volts)) }
+    ensures { result ≡ or_else (unless (int_le (pos 0) (high -ℤ volts)) node High (high -ℤ volts))
+        (unless (int_le (low -ℤ volts) (pos 0)) node Low (low -ℤ volts)) }
 {
     entry_failure(node, high - volts, low - volts)
 }

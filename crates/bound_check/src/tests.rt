@@ -148,7 +148,7 @@ fn chain(rt: HostRuntime) {
     let net = Net::build(rt.alloc(), 3, resistors, pads, loads).expect(&rt, "a network");
     let high: [i128; 3] = [VOLT, 997000000000002000000000, 993000000000004000000000];
     let low: [i128; 3] = [VOLT, 996999999999998000000000, 992999999999996000000000];
-    for (node, up, down, want) in [
+    for (node, to_high, to_low, want) in [
         (0usize, 0i128, 0i128, Ok(())),
         (2, -1, 0, refusal(2, Side::High, 0)),
         (1, -1, 0, refusal(1, Side::High, -1)),
@@ -158,16 +158,17 @@ fn chain(rt: HostRuntime) {
     ] {
         let mut high = high;
         let mut low = low;
-        high[node] += up;
-        low[node] += down;
+        high[node] += to_high;
+        low[node] += to_low;
         assert!(rt;
             answer(&rt, &net, high.as_slice(), low.as_slice()) == want,
-            "{node}: {up} and {down}"
+            "{node}: {to_high} and {to_low}"
         );
     }
 }
 
-/// A ring of four resistors of 1 ohm with a pad of 1 V, and at the corner across from it a load of 1 to 2 mA and a resistor to itself: from 999 mV and 998 mV, where all is drawn, to 999.5 mV and 999 mV.
+/// A ring of four resistors of 1 ohm with a pad of 1 V, and at the corner across from it a load of 1 to 2 mA and a
+/// resistor to itself: from 999 mV and 998 mV, where all is drawn, to 999.5 mV and 999 mV.
 #[test]
 fn ring_with_a_range(rt: HostRuntime) {
     let resistors = vec![in rt.alloc();
@@ -226,7 +227,7 @@ fn ring_with_a_range(rt: HostRuntime) {
         998999999999998000000000,
         997999999999997000000000,
     ];
-    for (node, up, down, want) in [
+    for (node, to_high, to_low, want) in [
         (0usize, 0i128, 0i128, Ok(())),
         (3, -1, 0, refusal(3, Side::High, 0)),
         (3, 0, 1, refusal(3, Side::Low, 0)),
@@ -240,11 +241,11 @@ fn ring_with_a_range(rt: HostRuntime) {
     ] {
         let mut high = high;
         let mut low = low;
-        high[node] += up;
-        low[node] += down;
+        high[node] += to_high;
+        low[node] += to_low;
         assert!(rt;
             answer(&rt, &net, high.as_slice(), low.as_slice()) == want,
-            "{node}: {up} and {down}"
+            "{node}: {to_high} and {to_low}"
         );
     }
 }
@@ -338,7 +339,8 @@ fn kept(rt: &(impl AllocGlobal + Abort), high: i128, low: i128) -> Certified {
     }
 }
 
-/// The tightest lists and the loosest tight ones of one resistor print the same digits, and so do all between them, since a
+/// The tightest lists and the loosest tight ones of one resistor print the same digits, and so do all between them,
+/// since a
 /// printed digit goes up with its number.
 #[test]
 fn digits_of_one_resistor(rt: HostRuntime) {
@@ -352,6 +354,8 @@ fn digits_of_one_resistor(rt: HostRuntime) {
             "what is kept"
         );
         assert!(rt; made.sweeps() == 7, "the sweeps");
+        let resistors = made.net().resistors().len();
+        assert!(rt; resistors == 1, "one resistor");
         assert!(rt;
             made.voltage(0) == (998999999, 999000001),
             "the voltage at n"

@@ -73,14 +73,14 @@ module _ (net : Network) (wf : IsNetwork net) (limit : ℕ) (x : ℕ → ℤ) wh
       let rest = plain_no_more i rs (All-tail (IsResistorOf net.nodes) r rs all) (All-tail IsInRange r rs flows) in
       omega (arith, ints, here, rest)
 
-  -- it satisfies the high half by the held flows too
+  -- It satisfies the high half by the held flows too.
   pub holds_when_held : FlowsWithin floor_div net limit x → HighHolds net x → HighHoldsBy (held_floor (pos limit)) net x
   holds_when_held flows holds = record {
     pads = holds.pads;
     sums = λ i l e. (let a = plain_no_more i net.resistors wf.each_resistor flows in omega (arith, ints, a, holds.sums i l e));
   }
 
-  -- and if it is tight, the held sums are the plain ones
+  -- And if it is tight, the held sums are the plain ones.
   pub tight_when_held : (bottom top : ℤ) → PadsWithin net bottom top → flow_reach net < limit → (top -ℤ bottom) <ℤ pos limit → HighHolds net x → IsTightAbove floor_div net x → HighHoldsBy (held_floor (pos limit)) net x × IsTightAbove (held_floor (pos limit)) net x
   tight_when_held bottom top pads reach span holds tight =
       let plain : HighHoldsBy floor_div net x = record { pads = holds.pads; sums = holds.sums } in

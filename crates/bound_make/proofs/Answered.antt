@@ -20,7 +20,7 @@ use Rattle.bound_make.proofs.Made.{same_list}
 
 module _ (net : Network) (wf : IsNetwork net) (s : Scale) (range : IsRangeOf net s.bottom s.top (scale_width net s)) (x w high low : List ℤ)
     (high_size : length high ≡ net.nodes) (low_size : length low ≡ net.nodes)
-    (up : IsMade High net s.bottom s.top (scale_width net s) x high) (down : IsMade Low net s.bottom s.top (scale_width net s) w low) where
+    (of_high : IsMade High net s.bottom s.top (scale_width net s) x high) (of_low : IsMade Low net s.bottom s.top (scale_width net s) w low) where
   abbrev X : ℕ → ℤ
   X = entry_of (start_in net s x)
 
@@ -29,11 +29,11 @@ module _ (net : Network) (wf : IsNetwork net) (s : Scale) (range : IsRangeOf net
 
   high_made : IsHighHalf net (entry_of high) × IsTightAbove floor_div net (entry_of high)
   high_made = high_is_half net wf range.level range.ohms s.bottom s.top range.fits range.pads X (entry_of high)
-      (subst (λ (n : ℕ). IsHighAnswer held_rule net s.bottom s.top n X (entry_of high)) range.width_is up)
+      (subst (λ (n : ℕ). IsHighAnswer held_rule net s.bottom s.top n X (entry_of high)) range.width_is of_high)
 
   low_made : IsLowHalf net (entry_of low) × IsTightBelow floor_div net (entry_of low)
   low_made = low_is_half net wf range.level range.ohms s.bottom s.top range.fits range.pads W (entry_of low)
-      (subst (λ (n : ℕ). IsLowAnswer held_rule net s.bottom s.top n W (entry_of low)) range.width_is down)
+      (subst (λ (n : ℕ). IsLowAnswer held_rule net s.bottom s.top n W (entry_of low)) range.width_is of_low)
 
   pub certificate_made : IsCertificate net high low
   certificate_made = record { high_half = high_made.0; low_half = low_made.0 }
@@ -42,7 +42,7 @@ module _ (net : Network) (wf : IsNetwork net) (s : Scale) (range : IsRangeOf net
   tight_made = tight_from_sides net high low high_made.1 low_made.1
 
   pub ranges_made : LieInRange net s high low
-  ranges_made = record { high_least = up.at_least; high_most = up.at_most; low_least = down.at_least; low_most = down.at_most }
+  ranges_made = record { high_least = of_high.at_least; high_most = of_high.at_most; low_least = of_low.at_least; low_most = of_low.at_most }
 
   reach : flow_reach net < flow_limit
   reach = reach_in_limit net wf range.level range.ohms s.bottom s.top range.fits range.pads
@@ -56,23 +56,23 @@ module _ (net : Network) (wf : IsNetwork net) (s : Scale) (range : IsRangeOf net
         (let span = span_in_limit net wf range.level range.ohms s.bottom s.top range.fits range.pads in
         let a = tight_when_held net wf flow_limit X s.bottom s.top range.pads reach span cert.high_half.holds (tight_above net (start_in net s x) (start_in net s w) tight) in
         let b = low_tight_when_held net wf flow_limit W s.bottom s.top range.pads reach span cert.low_half.holds (tight_below net (start_in net s x) (start_in net s w) tight) in
-        (same_list net.nodes high (start_in net s x) high_size (start_size x) (up.the_start a.0 a.1), same_list net.nodes low (start_in net s w) low_size (start_size w) (down.the_start b.0 b.1)));
-    not_above = λ half. up.not_above (holds_when_held net wf flow_limit X half.flows half.holds);
-    not_below = λ half. down.not_below (low_holds_when_held net wf flow_limit W half.flows half.holds);
+        (same_list net.nodes high (start_in net s x) high_size (start_size x) (of_high.the_start a.0 a.1), same_list net.nodes low (start_in net s w) low_size (start_size w) (of_low.the_start b.0 b.1)));
+    not_above = λ half. of_high.not_above (holds_when_held net wf flow_limit X half.flows half.holds);
+    not_below = λ half. of_low.not_below (low_holds_when_held net wf flow_limit W half.flows half.holds);
   }
 
--- where the lists are told, they are the proposals
+-- Where the lists are told, they are the proposals.
 pub told_made : (net : Network) (s : Scale) (told : Option (List ℤ × List ℤ)) (x w high low : List ℤ) → StandTo net s x w high low
     → ((t : List ℤ × List ℤ) → told ≡ Some t → length t.0 ≡ net.nodes → length t.1 ≡ net.nodes → (x ≡ t.0) × (w ≡ t.1)) → MadeOfTold net s told high low
 told_made net s None x w high low stand is = tt
 told_made net s (Some t) x w high low stand is = λ a b. (let e = is t refl a b in subst (λ (u : List ℤ). StandTo net s u t.1 high low) e.0 (subst (λ (u : List ℤ). StandTo net s x u high low) e.1 stand))
 
--- what is made by numbers that are those of a scale
+-- What is made by numbers that are those of a scale.
 pub at_scale : (half : Half) (net : Network) (s : Scale) (p x : List ℤ) (bottom top : ℤ) (w : ℕ) → s.bottom ≡ bottom → s.top ≡ top → scale_width net s ≡ w → IsMade half net bottom top w p x → IsMade half net s.bottom s.top (scale_width net s) p x
 at_scale half net s p x bottom top w a b c made =
     subst (λ (n : ℕ). IsMade half net s.bottom s.top n p x) (sym c) (subst (λ (z : ℤ). IsMade half net s.bottom z w p x) (sym b) (subst (λ (z : ℤ). IsMade half net z top w p x) (sym a) made))
 
--- what holds of an answer, if there is one, holds of the answer that is there
+-- What holds of an answer, if there is one, holds of the answer that is there.
 pub if_some_is : (o : Option (List ℤ × List ℤ)) (P : List ℤ × List ℤ → Type 0) (t : List ℤ × List ℤ) → IfSome o P → o ≡ Some t → P t
 if_some_is None P t h e = absurd (let f : ◌≡◌ {A = Option (List ℤ × List ℤ)} None (Some t) = e in cc)
 if_some_is (Some u) P t h e = let same : u ≡ t = cc in subst P same h

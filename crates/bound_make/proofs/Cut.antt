@@ -7,7 +7,7 @@ use Rattle.grid_net.specs.declared.part.Resistor.{Resistor}
 use Rattle.grid_net.specs.Network.{IsResistorOf, total, taken_by, outflow, FlowRule, over_nodes}
 use Rattle.bound_make.specs.inside.Raising.{IsFlowRule}
 
--- f 0 + .. + f (n - 1)
+-- f 0 + .. + f (n - 1).
 abbrev pub sum_to : ℕ → (ℕ → ℤ) → ℤ
 sum_to zero f = pos 0
 sum_to (suc n) f = sum_to n f +ℤ f n
@@ -79,11 +79,11 @@ chosen n a s u h =
     sum_to_same n (λ i. cond (s i) (cond (eqb a i) u (pos 0)) (pos 0)) (λ i. cond (eqb a i) (cond (s i) u (pos 0)) (pos 0)) (λ i l. turn (s i) (eqb a i) u)
     ∙ one_term n a (λ i. cond (s i) u (pos 0)) h
 
--- what a resistor takes from the nodes of a set
+-- What a resistor takes from the nodes of a set.
 abbrev pub taken_from : FlowRule → (ℕ → ℤ) → (ℕ → Bool) → Resistor → ℤ
 taken_from rule x s r = cond (s r.a) (rule (x r.a -ℤ x r.b) r.ohms) (pos 0) +ℤ cond (s r.b) (rule (x r.b -ℤ x r.a) r.ohms) (pos 0)
 
--- the flows that leave the nodes of a set, resistor by resistor
+-- The flows that leave the nodes of a set, resistor by resistor.
 pub cut_sum : (rule : FlowRule) (n : ℕ) (x : ℕ → ℤ) (s : ℕ → Bool) (rs : List Resistor) → All (IsResistorOf n) rs → sum_to n (λ i. cond (s i) (outflow rule rs x i) (pos 0)) ≡ total (taken_from rule x s) rs
 cut_sum rule n x s [] all =
     sum_to_same n (λ i. cond (s i) (pos 0) (pos 0)) (λ i. pos 0) (λ i l. nothing (s i)) ∙ sum_to_none n
@@ -126,7 +126,7 @@ at_most_part P f h [] all k d l = absurd (omega arith)
 at_most_part P f h (x ∷ xs) all zero d l = let b = at_most_none P f h xs (All-tail P x xs all) in omega (arith, ints, b)
 at_most_part P f h (x ∷ xs) all (suc k) d l = let a = h x (All-head P x xs all) in let b = at_most_part P f h xs (All-tail P x xs all) k d (le_of_suc-le-suc l) in omega (arith, ints, a, b)
 
--- a fact by the two outcomes of a test
+-- A fact by the two outcomes of a test.
 pub by_test : {P : Type 0} (b : Bool) → (b ≡ true → P) → (b ≡ false → P) → P
 by_test true p q = p refl
 by_test false p q = q refl
@@ -141,7 +141,7 @@ module _ (rule : FlowRule) (of_rule : IsFlowRule rule) (n : ℕ) (x : ℕ → �
   turned_flow : (r : Resistor) → rule (x r.b -ℤ x r.a) r.ohms ≡ rule (neg_ℤ (x r.a -ℤ x r.b)) r.ohms
   turned_flow r = let e : x r.b -ℤ x r.a ≡ neg_ℤ (x r.a -ℤ x r.b) = omega (arith, ints) in ap (λ d. rule d r.ohms) e
 
-  -- where the nodes of the set are above all others, a resistor takes at least -1 from them
+  -- Where the nodes of the set are above all others, a resistor takes at least -1 from them.
   takes_up : (t : ℤ) → ((i : ℕ) → s i ≡ true → t ≤ℤ x i) → ((i : ℕ) → s i ≡ false → x i ≤ℤ t) → (r : Resistor) → IsResistorOf n r → negsuc 0 ≤ℤ taken_from rule x s r
   takes_up t above below r of_r =
       both (s r.a) (s r.b) refl refl
@@ -152,7 +152,7 @@ module _ (rule : FlowRule) (of_rule : IsFlowRule rule) (n : ℕ) (x : ℕ → �
       both false true e f = let h = above r.b f in let k = below r.a e in omega (arith, ints, not_down (x r.b -ℤ x r.a) r.ohms of_r.resists (omega (arith, ints, h, k)))
       both false false e f = omega (arith, ints)
 
-  -- where they are below all others, it takes at most 0
+  -- Where they are below all others, it takes at most 0.
   takes_down : (t : ℤ) → ((i : ℕ) → s i ≡ true → x i ≤ℤ t) → ((i : ℕ) → s i ≡ false → t ≤ℤ x i) → (r : Resistor) → IsResistorOf n r → taken_from rule x s r ≤ℤ pos 0
   takes_down t below above r of_r =
       both (s r.a) (s r.b) refl refl
@@ -181,13 +181,13 @@ module _ (rule : FlowRule) (of_rule : IsFlowRule rule) (n : ℕ) (x : ℕ → �
       within true u m k = k refl
       within false u m k = omega (arith, ints)
 
-  -- what one resistor takes from the upper side of a cut is at most what its nodes are allowed, and the number of resistors
+  -- What one resistor takes from the upper side of a cut is at most what its nodes are allowed, and the number of resistors.
   pub upper_cut : (t : ℤ) → ((i : ℕ) → s i ≡ true → t ≤ℤ x i) → ((i : ℕ) → s i ≡ false → x i ≤ℤ t) → ((i : ℕ) → i < n → s i ≡ true → outflow rule rs x i ≤ℤ pos (limit i)) → (k : ℕ) (d : Resistor) → k < length rs → taken_from rule x s (get_or rs k d) ≤ℤ pos (over_nodes n limit + length rs)
   upper_cut t above below h k d l =
       let part = at_least_part (IsResistorOf n) (taken_from rule x s) (takes_up t above below) rs all k d l in
       omega (arith, ints, part, limited_up h)
 
-  -- what one resistor takes from the lower side is at least the negative of what its nodes are allowed
+  -- What one resistor takes from the lower side is at least the negative of what its nodes are allowed.
   pub lower_cut : (t : ℤ) → ((i : ℕ) → s i ≡ true → x i ≤ℤ t) → ((i : ℕ) → s i ≡ false → t ≤ℤ x i) → ((i : ℕ) → i < n → s i ≡ true → neg_ℤ (pos (limit i)) ≤ℤ outflow rule rs x i) → (k : ℕ) (d : Resistor) → k < length rs → neg_ℤ (pos (over_nodes n limit)) ≤ℤ taken_from rule x s (get_or rs k d)
   lower_cut t below above h k d l =
       let part = at_most_part (IsResistorOf n) (taken_from rule x s) (takes_down t below above) rs all k d l in

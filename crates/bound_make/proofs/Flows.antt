@@ -76,6 +76,6 @@ held_below m a b h lt = omega (arith, ints, clamps)
 pub held_tells : (m : ℤ) (reach : ℕ) → pos reach ≤ℤ m → TellsBelow (held_floor m) reach
 held_tells m reach h z r p lt = floor_tells reach z r p (held_below m (floor_div z r) (pos reach) h lt)
 
--- a flow within the limit is held as it is
+-- A flow within the limit is held as it is.
 pub held_same : (m a : ℤ) → neg_ℤ m ≤ℤ a → a ≤ℤ m → held m a ≡ a
 held_same m a h k = omega (arith, ints, clamps)

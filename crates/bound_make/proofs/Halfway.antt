@@ -25,7 +25,7 @@ use Rattle.bound_make.proofs.Made.{same_list, IsStarted}
 seen_high : (net : Network) → seen High net ≡ net
 seen_high net = refl
 
--- where a half sees the pads
+-- Where a half sees the pads.
 abbrev pub bottom_of : Half → ℤ → ℤ → ℤ
 bottom_of High bottom top = bottom
 bottom_of Low bottom top = neg_ℤ top
@@ -34,7 +34,7 @@ abbrev pub top_of : Half → ℤ → ℤ → ℤ
 top_of High bottom top = top
 top_of Low bottom top = neg_ℤ bottom
 
--- an entry of a list that is turned in sign
+-- An entry of a list that is turned in sign.
 entry_turned : (xs : List ℤ) (i : ℕ) → entry_of (map neg_ℤ xs) i ≡ neg_ℤ (entry_of xs i)
 entry_turned [] i = refl
 entry_turned (x ∷ xs) zero = refl
@@ -60,7 +60,7 @@ module _ (net : Network) (wf : IsNetwork net) (bottom top : ℤ) (w : ℕ) (rang
   abbrev value : ℕ → Option ℤ → ℤ
   value i o = start_value bottom top w (entry_of proposal i) o
 
-  -- a start lies in its range
+  -- A start lies in its range.
   module _ (order : bottom ≤ℤ top) where
     value_bounds : (i : ℕ) → i < net.nodes → (o : Option ℤ) → pad_at net i ≡ o → ((bottom -ℤ pos w) ≤ℤ value i o) × (value i o ≤ℤ (top +ℤ pos w))
     value_bounds i l (Some v) e = (omega (arith, ints, range.pads.at_least i v l e), omega (arith, ints, range.pads.at_most i v l e))

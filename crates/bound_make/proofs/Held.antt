@@ -12,7 +12,7 @@ use Rattle.bound_make.proofs.Flows.{floor_is_rule, held_same}
 use Rattle.bound_make.proofs.Lift.{flow_down, flow_up, no_resistor}
 use Rattle.bound_make.proofs.Reach.{tight_limit, tight_room}
 
--- a floor of a difference that is not negative is no more than the difference
+-- A floor of a difference that is not negative is no more than the difference.
 floor_le : (z R : ℤ) → pos 1 ≤ℤ R → pos 0 ≤ℤ z → floor_div z R ≤ℤ z
 floor_le (pos m) (pos k) h le = omega (arith, ints, div-le_self m k)
 floor_le (pos m) (negsuc k) h le = absurd (omega (arith, ints))
@@ -24,7 +24,7 @@ below_when_held m a b h le = omega (arith, ints, clamps)
 above_when_held : (m a b : ℤ) → neg_ℤ m <ℤ b → b ≤ℤ held m a → b ≤ℤ a
 above_when_held m a b h le = omega (arith, ints, clamps)
 
--- a rule whose flows within m are the floors
+-- A rule whose flows within m are the floors.
 pub record IsWithinPlain (rule : FlowRule) (m : ℕ) : Type 0 where
   pub below : (z r b : ℤ) → b <ℤ pos m → rule z r ≤ℤ b → floor_div z r ≤ℤ b
   pub above : (z r b : ℤ) → neg_ℤ (pos m) <ℤ b → b ≤ℤ rule z r → b ≤ℤ floor_div z r
@@ -50,7 +50,7 @@ module _ (rule : FlowRule) (of_rule : IsFlowRule rule) (net : Network) (wf : IsN
   abbrev turned : (i j : ℕ) → AreJoined net i j → AreJoined net j i
   turned i j joined = record { place = joined.place; in_list = joined.in_list; ends = λ d. elim (joined.ends d) [ inl e ↦ inr e | inr e ↦ inl e ] }
 
-  -- the flow down a resistor
+  -- The flow down a resistor.
   flow_below : (i j : ℕ) (joined : AreJoined net i j) → high j <ℤ high i → (R : ℤ) → pos 1 ≤ℤ R → R ≡ (get_or net.resistors joined.place no_resistor).ohms → floor_div (high i -ℤ high j) R <ℤ pos m
   flow_below i j joined lt R resists is_R = by_lt_z top (high i)
       (λ over.
@@ -69,7 +69,7 @@ module _ (rule : FlowRule) (of_rule : IsFlowRule rule) (net : Network) (wf : IsN
       omega (arith, ints, is, both, ap (λ z. floor_div z R) same, reach))
       (λ not_under. let le = floor_le (high i -ℤ high j) R resists (omega (arith, ints, lt)) in omega (arith, ints, le, span, not_over, not_under)))
 
-  -- both flows at a resistor whose first end is the higher one are held as they are
+  -- Both flows at a resistor whose first end is the higher one are held as they are.
   same_down : (i j : ℕ) (joined : AreJoined net i j) → high j <ℤ high i → (R : ℤ) → pos 1 ≤ℤ R → R ≡ (get_or net.resistors joined.place no_resistor).ohms → (held_floor (pos m) (high i -ℤ high j) R ≡ floor_div (high i -ℤ high j) R) × (held_floor (pos m) (high j -ℤ high i) R ≡ floor_div (high j -ℤ high i) R)
   same_down i j joined lt R resists is_R =
       let below = flow_below i j joined lt R resists is_R in
@@ -127,11 +127,11 @@ module _ (rule : FlowRule) (of_rule : IsFlowRule rule) (net : Network) (wf : IsN
       let e = taken_plain (eqb r.a i) (eqb r.b i) (held_floor (pos m) (high r.a -ℤ high r.b) r.ohms) (held_floor (pos m) (high r.b -ℤ high r.a) r.ohms) (floor_div (high r.a -ℤ high r.b) r.ohms) (floor_div (high r.b -ℤ high r.a) r.ohms) here.0 here.1 in
       omega (arith, ints, e, rest)
 
-  -- each node's sum of held flows is its sum of floors
+  -- Each node's sum of held flows is its sum of floors.
   pub sums_are_plain : (i : ℕ) → outflow (held_floor (pos m)) net.resistors high i ≡ outflow floor_div net.resistors high i
   sums_are_plain i = plain_sum i net.resistors each_plain
 
-  -- and each flow lies within the limit
+  -- And each flow lies within the limit.
   pub flows_within : (k : ℕ) (d : Resistor) → k < length net.resistors → let r = get_or net.resistors k d in (neg_ℤ (pos m) ≤ℤ floor_div (high r.a -ℤ high r.b) r.ohms) × (floor_div (high r.a -ℤ high r.b) r.ohms ≤ℤ pos m)
   flows_within k d l =
       let r = get_or net.resistors k d in

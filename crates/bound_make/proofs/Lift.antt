@@ -12,7 +12,7 @@ use Rattle.grid_net.specs.Level.{AreJoined, IsWithin}
 use Rattle.bound_make.proofs.Raised.{step_at_most, others_no_more, is_below, pad_is_other}
 use Rattle.bound_make.proofs.Cut.{sum_to, sum_to_le, sum_to_add, sum_to_pos, taken_from, upper_cut, lower_cut, own_term, other_term, one_term}
 
--- a factor on the right keeps an order
+-- A factor on the right keeps an order.
 pub times_le_right : (c : ℕ) (a b : ℤ) → a ≤ℤ b → (a *ℤ pos c) ≤ℤ (b *ℤ pos c)
 times_le_right c a b h = omega (arith, ints, mul-le-mul_right c (le_out a b h))
 
@@ -20,7 +20,7 @@ pub no_resistor : Resistor
 no_resistor = record { a = 0; b = 0; ohms = pos 1 }
 
 module _ (rule : FlowRule) (of_rule : IsFlowRule rule) (net : Network) (wf : IsNetwork net) where
-  -- what a resistor with one end in a set takes from it is the flow from that end
+  -- What a resistor with one end in a set takes from it is the flow from that end.
   crossing : (x : ℕ → ℤ) (s : ℕ → Bool) (i j : ℕ) (r : Resistor) → ((r.a ≡ i) × (r.b ≡ j)) ⊎ ((r.a ≡ j) × (r.b ≡ i)) → s i ≡ true → s j ≡ false → taken_from rule x s r ≡ rule (x i -ℤ x j) r.ohms
   crossing x s i j r (inl (a, b)) in_set out =
       let sa : s r.a ≡ true = ap s a ∙ in_set in
@@ -37,7 +37,7 @@ module _ (rule : FlowRule) (of_rule : IsFlowRule rule) (net : Network) (wf : IsN
       let d : x r.b -ℤ x r.a ≡ x i -ℤ x j = ap (λ m. x m -ℤ x r.a) b ∙ ap (λ m. x i -ℤ x m) a in
       omega (arith, ints, u, v, ap (λ z. rule z r.ohms) d)
 
-  -- the flow down from a node: at most what the nodes that are no lower are allowed, and the number of resistors
+  -- The flow down from a node: at most what the nodes that are no lower are allowed, and the number of resistors.
   pub flow_down : (x : ℕ → ℤ) (limit : ℕ → ℕ) (i j : ℕ) (joined : AreJoined net i j) → x j <ℤ x i → ((v : ℕ) → v < net.nodes → x i ≤ℤ x v → outflow rule net.resistors x v ≤ℤ pos (limit v)) → (d : Resistor) → rule (x i -ℤ x j) (get_or net.resistors joined.place d).ohms ≤ℤ pos (over_nodes net.nodes limit + length net.resistors)
   flow_down x limit i j joined lt h d =
       let s : ℕ → Bool = λ v. le_z (x i) (x v) in
@@ -47,7 +47,7 @@ module _ (rule : FlowRule) (of_rule : IsFlowRule rule) (net : Network) (wf : IsN
       let is = crossing x s i j (get_or net.resistors joined.place d) (joined.ends d) in_set out in
       omega (arith, ints, cut, is)
 
-  -- the flow up from a node: at least the negative of what the nodes that are no higher are allowed
+  -- The flow up from a node: at least the negative of what the nodes that are no higher are allowed.
   pub flow_up : (x : ℕ → ℤ) (limit : ℕ → ℕ) (i j : ℕ) (joined : AreJoined net i j) → x i <ℤ x j → ((v : ℕ) → v < net.nodes → x v ≤ℤ x i → neg_ℤ (pos (limit v)) ≤ℤ outflow rule net.resistors x v) → (d : Resistor) → neg_ℤ (pos (over_nodes net.nodes limit)) ≤ℤ rule (x i -ℤ x j) (get_or net.resistors joined.place d).ohms
   flow_up x limit i j joined lt h d =
       let s : ℕ → Bool = λ v. le_z (x v) (x i) in
@@ -57,11 +57,11 @@ module _ (rule : FlowRule) (of_rule : IsFlowRule rule) (net : Network) (wf : IsN
       let is = crossing x s i j (get_or net.resistors joined.place d) (joined.ends d) in_set out in
       omega (arith, ints, cut, is)
 
--- what may leave a node of a list that is being raised: the load's greater magnitude, and one for each resistor
+-- What may leave a node of a list that is being raised: the load's greater magnitude, and one for each resistor.
 abbrev pub allowed : Network → ℕ → ℕ
 allowed net i = load_size net i + degree net.resistors i
 
--- a list on the way to the least lift
+-- A list on the way to the least lift.
 pub record IsPartLift (rule : FlowRule) (net : Network) (y : ℕ → ℤ) : Type 0 where
   pub pads : (i : ℕ) (v : ℤ) → i < net.nodes → pad_at net i ≡ Some v → y i ≡ pos 0
   pub not_below : (i : ℕ) → i < net.nodes → pos 0 ≤ℤ y i
@@ -69,7 +69,7 @@ pub record IsPartLift (rule : FlowRule) (net : Network) (y : ℕ → ℤ) : Type
   pub below_all : (z : ℕ → ℤ) → IsLift rule net z → (i : ℕ) → i < net.nodes → y i ≤ℤ z i
 
 module _ (rule : FlowRule) (of_rule : IsFlowRule rule) (net : Network) (wf : IsNetwork net) (R reach : ℕ) (each_at_most : All (λ r. r.ohms ≤ℤ pos R) net.resistors) (tells : TellsBelow rule reach) (room : over_nodes net.nodes (allowed net) + length net.resistors < reach) where
-  -- a node is no higher above a neighbour than the greatest resistance times the reach
+  -- A node is no higher above a neighbour than the greatest resistance times the reach.
   step_up : (y : ℕ → ℤ) → IsPartLift rule net y → (i j : ℕ) → i < net.nodes → j < net.nodes → AreJoined net i j → y i ≤ℤ (y j +ℤ pos (R * reach))
   step_up y part i j l m joined = by_lt_z (y j) (y i)
       (λ lt.
@@ -85,7 +85,7 @@ module _ (rule : FlowRule) (of_rule : IsFlowRule rule) (net : Network) (wf : IsN
       no_pad v n None e pos_y = part.limited v n e
       no_pad v n (Some u) e pos_y = absurd (omega (arith, ints, part.pads v u n e, pos_y))
 
-  -- a node that a chain of k resistors joins to a pad is at most k such steps high
+  -- A node that a chain of k resistors joins to a pad is at most k such steps high.
   pub within_bound : (y : ℕ → ℤ) → IsPartLift rule net y → (k i : ℕ) → i < net.nodes → IsWithin net k i → y i ≤ℤ pos (k * (R * reach))
   within_bound y part zero i l (v, pad) = omega (arith, ints, part.pads i v l pad)
   within_bound y part (suc k) i l (inl w) = let h = within_bound y part k i l w in omega (arith, ints, h)
@@ -94,7 +94,7 @@ module _ (rule : FlowRule) (of_rule : IsFlowRule rule) (net : Network) (wf : IsN
       let s = step_up y part i j l m joined in
       omega (arith, ints, h, s)
 
--- one of the first n numbers passes, or each of them fails
+-- One of the first n numbers passes, or each of them fails.
 pub find_first : (P Q : ℕ → Type 0) → ((i : ℕ) → P i ⊎ Q i) → (n : ℕ) → ((i : ℕ) × (i < n) × P i) ⊎ ((i : ℕ) → i < n → Q i)
 find_first P Q test zero = inr (λ i l. absurd (omega arith))
 find_first P Q test (suc n) = elim (find_first P Q test n) [
@@ -105,7 +105,7 @@ find_first P Q test (suc n) = elim (find_first P Q test n) [
   ]
 ]
 
--- the list with one more at a node
+-- The list with one more at a node.
 abbrev pub raise_at : (ℕ → ℤ) → ℕ → ℕ → ℤ
 raise_at y i j = y j +ℤ cond (eqb i j) (pos 1) (pos 0)
 
@@ -138,7 +138,7 @@ outflow_none rule of_rule n (r ∷ rs) all i =
     takes_none false false u e = omega (arith, ints)
 
 module _ (rule : FlowRule) (of_rule : IsFlowRule rule) (net : Network) (wf : IsNetwork net) where
-  -- the node is no pad, and less leaves it than the load's greater magnitude and 1
+  -- The node is no pad, and less leaves it than the load's greater magnitude and 1.
   abbrev IsShort : (ℕ → ℤ) → ℕ → Type 0
   IsShort y i = (pad_at net i ≡ None) × (outflow rule net.resistors y i <ℤ pos (load_size net i + 1))
 
@@ -193,7 +193,7 @@ module _ (rule : FlowRule) (of_rule : IsFlowRule rule) (net : Network) (wf : IsN
       | inr enough ↦ (y, part, enough)
     ]
 
-    -- there is a least lift, and it is nowhere above K times the greatest resistance times the reach
+    -- There is a least lift, and it is nowhere above K times the greatest resistance times the reach.
     pub least_lift : (y : ℕ → ℤ) × IsLift rule net y × ((i : ℕ) → i < net.nodes → y i ≤ℤ pos (K * (R * reach))) × ((z : ℕ → ℤ) → IsLift rule net z → (i : ℕ) → i < net.nodes → y i ≤ℤ z i)
     least_lift =
         let made = raise_all (suc (net.nodes * (K * (R * reach)))) (λ j. pos 0) start_part (omega (arith, ints, sum_to_pos net.nodes (λ i. 0), over_same net.nodes 0)) in

@@ -10,19 +10,19 @@ use Rattle.grid_net.specs.Level.{IsWithin, IsLevel}
 use Rattle.bound_make.proofs.Reach.{over_add, over_le, reach_is}
 use Rattle.bound_make.proofs.Lift.{over_same}
 
--- a chain may be counted as longer
+-- A chain may be counted as longer.
 pub within_more : (net : Network) (k m i : ℕ) → k ≤ m → IsWithin net k i → IsWithin net m i
 within_more net k zero i le w = let e : k ≡ 0 = omega arith in subst (λ (j : ℕ). IsWithin net j i) e w
 within_more net k (suc m) i le w = elim (cases_eq k (suc m)) [ inl e ↦ subst (λ (j : ℕ). IsWithin net j i) e w | inr ne ↦ inl (within_more net k m i (omega arith) w) ]
 
--- a node has one level
+-- A node has one level.
 pub level_unique : (net : Network) (i k m : ℕ) → IsLevel net i k → IsLevel net i m → k ≡ m
 level_unique net i k m a b = elim (cases_lt k m) [
   | inl lt ↦ absurd (b.not_nearer k lt a.within)
   | inr ge ↦ elim (cases_eq k m) [ inl e ↦ e | inr ne ↦ absurd (a.not_nearer m (omega arith) b.within) ]
 ]
 
--- below a level stands a node of the next lower one
+-- Below a level stands a node of the next lower one.
 lower_level : (net : Network) (i k : ℕ) → IsLevel net i (suc k) → (j : ℕ) × (j < net.nodes) × IsLevel net j k
 lower_level net i k level = by_way level.within
   where
@@ -30,7 +30,7 @@ lower_level net i k level = by_way level.within
     by_way (inl w) = absurd (level.not_nearer k (omega arith) w)
     by_way (inr (j, l, joined, w)) = (j, l, record { within = w; not_nearer = λ m lt v. level.not_nearer (suc m) (omega arith) (inr (j, l, joined, v)) })
 
--- a node of each level up to that of a given node
+-- A node of each level up to that of a given node.
 level_at : (net : Network) (k i : ℕ) → i < net.nodes → IsLevel net i k → (m : ℕ) → m ≤ k → (j : ℕ) × (j < net.nodes) × IsLevel net j m
 level_at net zero i l level m le = let e : 0 ≡ m = omega arith in (i, l, subst (λ (n : ℕ). IsLevel net i n) e level)
 level_at net (suc k) i l level m le = elim (cases_eq m (suc k)) [
@@ -101,7 +101,7 @@ different_fit f n c below apart =
     let e = over_same n 1 in
     omega arith
 
--- the level of a node is less than the number of nodes
+-- The level of a node is less than the number of nodes.
 module _ (net : Network) (i k : ℕ) (l : i < net.nodes) (level : IsLevel net i k) where
   of_level : (m : ℕ) → (j : ℕ) × (j < net.nodes) × IsLevel net j (min m k)
   of_level m = level_at net k i l level (min m k) (omega arith)
@@ -114,7 +114,7 @@ module _ (net : Network) (i k : ℕ) (l : i < net.nodes) (level : IsLevel net i 
   pub level_below_nodes : k < net.nodes
   level_below_nodes = different_fit (λ m. (of_level m).0) net.nodes (suc k) (λ m lt. (of_level m).1) apart
 
--- the greatest level supplies every node
+-- The greatest level supplies every node.
 pub supplied_by_levels : (net : Network) (k : ℕ) → ((i : ℕ) → i < net.nodes → (m : ℕ) × (m ≤ k) × IsLevel net i m) → IsSuppliedWithin net k
 supplied_by_levels net k h i l = let m = h i l in within_more net m.0 k i m.1 m.2.within
 
@@ -123,7 +123,7 @@ two_ends : (s t : Bool) → cond (s || t) 1 0 ≤ cond s 1 0 + cond t 1 0
 two_ends true t = omega arith
 two_ends false t = omega arith
 
--- each resistor stands at two nodes at most
+-- Each resistor stands at two nodes at most.
 degrees_le : (n : ℕ) (rs : List Resistor) → All (IsResistorOf n) rs → over_nodes n (degree rs) ≤ 2 * length rs
 degrees_le n [] all = let e = over_same n 0 in omega arith
 degrees_le n (r ∷ rs) all =

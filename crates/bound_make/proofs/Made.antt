@@ -10,7 +10,7 @@ use Rattle.bound_make.specs.inside.Moving.{held_rule, IsFull, IsTrim, IsRaising,
 use Rattle.bound_make.proofs.Steps.{held_is}
 use Rattle.bound_make.proofs.Range.{high_roof, high_floor}
 
--- two lists of one length with the same entries
+-- Two lists of one length with the same entries.
 pub same_list : (n : ℕ) (x y : List ℤ) → length x ≡ n → length y ≡ n → ((i : ℕ) → i < n → entry_of x i ≡ entry_of y i) → x ≡ y
 same_list n x y a b h = ext_get_or (pos 0) x y (a ∙ sym b) (λ i l. h i (omega (arith, a, l)))
 
@@ -65,7 +65,7 @@ module _ (net : Network) (wf : IsNetwork net) (tells : TellsBelow held_rule (flo
             ap (λ w. entry_of w i) (falling.unmoved (λ j m. subst (λ (w : List ℤ). IsTrim net w j) (sym same) (tight.sums j m)) ∙ same));
       }
 
--- all that is asked of a start
+-- All that is asked of a start.
 pub record IsStarted (net : Network) (k r : ℕ) (bottom top : ℤ) (start : List ℤ) : Type 0 where
   pub wf : IsNetwork net
   pub tells : TellsBelow held_rule (flow_reach net)

@@ -13,14 +13,14 @@ use Rattle.bound_make.specs.inside.Moving.{held_rule, held_sum, IsTrim, IsRaisin
 use Rattle.bound_make.proofs.Raised.{raise_below, lower_keeps, pad_is_other}
 use Rattle.bound_make.proofs.Steps.{held_is}
 
--- a list with one entry changed
+-- A list with one entry changed.
 moved_is : (n : ℕ) (x : List ℤ) (node : ℕ) (by : ℤ) → length x ≡ n → node < n → IsMovedAt n node by (entry_of x) (entry_of (set x node (entry_of x node +ℤ by)))
 moved_is n x node by size l = record {
   moved = get_or-set_same x node (entry_of x node +ℤ by) (pos 0) (omega (arith, size, l));
   others = λ j m ne. get_or-set_other x node j (entry_of x node +ℤ by) (pos 0) ne;
 }
 
--- a bound on each entry, at any default
+-- A bound on each entry, at any default.
 pub each_entry : (P : ℤ → Type 0) (n : ℕ) (x : List ℤ) → length x ≡ n → ((i : ℕ) → i < n → P (entry_of x i)) → All P x
 each_entry P n x size h = λ i d l. subst P (get_or_default x i (pos 0) d l) (h i (omega (arith, size, l)))
 
@@ -64,7 +64,7 @@ module _ (net : Network) (wf : IsNetwork net) where
     to_almost : IsMovedAt net.nodes node (step -ℤ pos 1) (entry_of x) almost
     to_almost = moved_is net.nodes x node (step -ℤ pos 1) can.size l
 
-    -- raised by all but one unit, the node's sum is still below 1, so one unit more is below each list that satisfies the half
+    -- Raised by all but one unit, the node's sum is still below 1, so one unit more is below each list that satisfies the half.
     under : (z : ℕ → ℤ) → HighHoldsBy held_rule net z → ((i : ℕ) → i < net.nodes → entry_of x i ≤ℤ z i) → (entry_of x node +ℤ step) ≤ℤ z node
     under z holds over =
         let less = room (step -ℤ pos 1) almost (omega (arith, ints, some)) (omega (arith, ints)) to_almost in

@@ -10,7 +10,7 @@ use Rattle.rounding.specs.Laws.{greatest_of}
 use Rattle.grid_net.specs.Laws.Sums.{taken_le}
 
 module _ (rule : FlowRule) (of_rule : IsFlowRule rule) (n : ℕ) where
-  -- the flows that leave the node at which one list is farthest above another are no smaller in it
+  -- The flows that leave the node at which one list is farthest above another are no smaller in it.
   pub outflow_le : (x z : ℕ → ℤ) (i : ℕ) → ((j : ℕ) → j < n → (z j -ℤ x j) ≤ℤ (z i -ℤ x i)) → (rs : List Resistor) → All (IsResistorOf n) rs → outflow rule rs x i ≤ℤ outflow rule rs z i
   outflow_le x z i top [] all = omega (arith, ints)
   outflow_le x z i top (r ∷ rs) all =
@@ -23,20 +23,20 @@ module _ (rule : FlowRule) (of_rule : IsFlowRule rule) (n : ℕ) where
       (λ e. let h = at_b e in of_rule.grows (x r.b -ℤ x r.a) (z r.b -ℤ z r.a) r.ohms of_r.resists (omega (arith, ints, h))) in
       omega (arith, ints, here, rest)
 
-  -- a list that is nowhere above another but perhaps at one node, from which less flows, is strictly below it there too
+  -- A list that is nowhere above another but perhaps at one node, from which less flows, is strictly below it there too.
   pub is_below : (x z : ℕ → ℤ) (i : ℕ) → ((j : ℕ) → j < n → j ≢ i → x j ≤ℤ z j) → (rs : List Resistor) → All (IsResistorOf n) rs → outflow rule rs x i <ℤ outflow rule rs z i → (x i +ℤ pos 1) ≤ℤ z i
   is_below x z i under rs all less =
       by_lt_z (x i) (z i) (λ lt. omega (arith, ints))
       (λ le. let back : outflow rule rs z i ≤ℤ outflow rule rs x i = outflow_le z x i (λ j l. elim (cases_eq j i) [ inl e ↦ omega (arith, ints, ap x e, ap z e) | inr ne ↦ let u = under j l ne in omega (arith, ints, u, le) ]) rs all in absurd (omega (arith, ints, back, less)))
 
-  -- no node's flows grow by more than its degree, if it is raised by one
+  -- No node's flows grow by more than its degree, if it is raised by one.
   ends_step : (s t : Bool) (u v u' v' : ℤ) → (s ≡ true → u' ≤ℤ (u +ℤ pos 1)) → (t ≡ true → v' ≤ℤ (v +ℤ pos 1)) → (s ≡ true → t ≡ true → (u' +ℤ v') ≤ℤ (u +ℤ v)) → (cond s u' (pos 0) +ℤ cond t v' (pos 0)) ≤ℤ ((cond s u (pos 0) +ℤ cond t v (pos 0)) +ℤ pos (cond (s || t) 1 0))
   ends_step true true u v u' v' a b both = omega (arith, ints, both refl refl)
   ends_step true false u v u' v' a b both = omega (arith, ints, a refl)
   ends_step false true u v u' v' a b both = omega (arith, ints, b refl)
   ends_step false false u v u' v' a b both = omega (arith, ints)
 
-  -- the difference at a resistor of the node that is raised is greater by one at most
+  -- The difference at a resistor of the node that is raised is greater by one at most.
   flow_step : (d d' r : ℤ) → pos 1 ≤ℤ r → d' ≤ℤ (d +ℤ pos 1) → rule d' r ≤ℤ (rule d r +ℤ pos 1)
   flow_step d d' r h le = let a = of_rule.grows d' (d +ℤ pos 1) r h le in let b = of_rule.by_one d r h in omega (arith, ints, a, b)
 
@@ -60,7 +60,7 @@ module _ (rule : FlowRule) (of_rule : IsFlowRule rule) (n : ℕ) where
       (λ e e'. let same : r.a ≡ r.b = eqb-true r.a i e ∙ sym (eqb-true r.b i e') in omega (arith, ints, none_same x r of_r.resists same, none_same z r of_r.resists same)) in
       omega (arith, ints, here, rest)
 
-  -- flows rounded the other way: what leaves in a list's negative is at most the negative of what leaves in the list
+  -- Flows rounded the other way: what leaves in a list's negative is at most the negative of what leaves in the list.
   pub outflow_negative : (x z : ℕ → ℤ) (i : ℕ) (t : ℤ) → ((j : ℕ) → j < n → z j ≡ t -ℤ x j) → (rs : List Resistor) → All (IsResistorOf n) rs → (outflow rule rs x i +ℤ outflow rule rs z i) ≤ℤ pos 0
   outflow_negative x z i t is [] all = omega (arith, ints)
   outflow_negative x z i t is (r ∷ rs) all =
@@ -85,7 +85,7 @@ module _ (rule : FlowRule) (of_rule : IsFlowRule rule) (n : ℕ) where
       taken_negative false false u v = omega (arith, ints)
 
 module _ (rule : FlowRule) (of_rule : IsFlowRule rule) (net : Network) (wf : IsNetwork net) where
-  -- a list that is nowhere above one that satisfies the high half, but perhaps at a node whose sum is below 1, may be raised there
+  -- A list that is nowhere above one that satisfies the high half, but perhaps at a node whose sum is below 1, may be raised there.
   pub raise_below : (x z : ℕ → ℤ) (i : ℕ) → HighHoldsBy rule net z → ((j : ℕ) → j < net.nodes → j ≢ i → x j ≤ℤ z j) → i < net.nodes → pad_at net i ≡ None → (outflow rule net.resistors x i +ℤ low_load net i) <ℤ pos 1 → (x i +ℤ pos 1) ≤ℤ z i
   raise_below x z i holds under l no_pad short =
       let h = holds.sums i l no_pad in
@@ -97,7 +97,7 @@ module _ (rule : FlowRule) (of_rule : IsFlowRule rule) (net : Network) (wf : IsN
       Some_not_None : (v : ℤ) → ◌≡◌ {A = Option ℤ} (Some v) None → ⊥
       Some_not_None v e = cc
 
-  -- a list that satisfies the high half still does so, if it is lowered at a node that is no pad and whose sum stays at least 1
+  -- A list that satisfies the high half still does so, if it is lowered at a node that is no pad and whose sum stays at least 1.
   pub lower_keeps : (x z : ℕ → ℤ) (i : ℕ) → HighHoldsBy rule net x → pad_at net i ≡ None → ((j : ℕ) → j < net.nodes → j ≢ i → z j ≡ x j) → z i ≤ℤ x i → pos 1 ≤ℤ (outflow rule net.resistors z i +ℤ low_load net i) → HighHoldsBy rule net z
   lower_keeps x z i holds no_pad others lower sum = record {
     pads = λ j v l pad. let h = holds.pads j v l pad in let e = others j l (pad_is_other i j v no_pad pad) in omega (arith, ints, h, e);
@@ -110,18 +110,18 @@ module _ (rule : FlowRule) (of_rule : IsFlowRule rule) (net : Network) (wf : IsN
     ];
   }
 
-  -- one unit at a node changes its sum by its degree at most
+  -- One unit at a node changes its sum by its degree at most.
   pub step_at_most : (x z : ℕ → ℤ) (i : ℕ) → IsRaisedByOne net.nodes i x z → outflow rule net.resistors z i ≤ℤ (outflow rule net.resistors x i +ℤ pos (degree net.resistors i))
   step_at_most x z i step =
       outflow_step rule of_rule net.nodes x z i (λ j l. elim (cases_eq j i) [ inl e ↦ omega (arith, ints, ap x e, ap z e, step.raised) | inr ne ↦ omega (arith, ints, step.raised, step.others j l ne) ]) net.resistors wf.each_resistor
 
-  -- and no other node's sum grows
+  -- And no other node's sum grows.
   pub others_no_more : (x z : ℕ → ℤ) (i : ℕ) → IsRaisedByOne net.nodes i x z → (j : ℕ) → j < net.nodes → j ≢ i → outflow rule net.resistors z j ≤ℤ outflow rule net.resistors x j
   others_no_more x z i step j l ne =
       let here = step.others j l ne in
       outflow_le rule of_rule net.nodes z x j (λ k m. elim (cases_eq k i) [ inl e ↦ omega (arith, ints, ap x e, ap z e, step.raised, here) | inr o ↦ omega (arith, ints, step.others k m o, here) ]) net.resistors wf.each_resistor
 
-  -- a lift above a voltage that no pad passes satisfies the high half
+  -- A lift above a voltage that no pad passes satisfies the high half.
   pub lift_holds : (y : ℕ → ℤ) (t : ℤ) → IsLift rule net y → ((i : ℕ) (v : ℤ) → i < net.nodes → pad_at net i ≡ Some v → v ≤ℤ t) → HighHoldsBy rule net (λ j. t +ℤ y j)
   lift_holds y t lift top = record {
     pads = λ i v l pad. let a = top i v l pad in let b = lift.pads i v l pad in omega (arith, ints, a, b);
@@ -131,7 +131,7 @@ module _ (rule : FlowRule) (of_rule : IsFlowRule rule) (net : Network) (wf : IsN
         omega (arith, ints, a, le);
   }
 
-  -- a lift below a voltage that no pad is below lies below every list that satisfies the high half
+  -- A lift below a voltage that no pad is below lies below every list that satisfies the high half.
   lift_below_at_top : (y h : ℕ → ℤ) (b : ℤ) → IsLift rule net y → HighHoldsBy rule net h → ((i : ℕ) (v : ℤ) → i < net.nodes → pad_at net i ≡ Some v → b ≤ℤ v) → (i : ℕ) → i < net.nodes → ((j : ℕ) → j < net.nodes → ((b -ℤ y j) -ℤ h j) ≤ℤ ((b -ℤ y i) -ℤ h i)) → (o : Option ℤ) → pad_at net i ≡ o → (b -ℤ y i) ≤ℤ h i
   lift_below_at_top y h b lift holds bottom i l top None no_pad =
       let le = outflow_le rule of_rule net.nodes h (λ j. b -ℤ y j) i top net.resistors wf.each_resistor in

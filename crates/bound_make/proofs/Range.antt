@@ -16,7 +16,7 @@ use Rattle.bound_make.proofs.Turned.{high_from_low, low_from_high}
 use Rattle.grid_net.specs.Laws.Mirror.{mirror_network, pad_out, pad_in, load_in, high_in, ranges_turned}
 
 module _ (rule : FlowRule) (of_rule : IsFlowRule rule) (net : Network) (wf : IsNetwork net) (tells : TellsBelow rule (flow_reach net)) (k r : ℕ) (supplied : IsSuppliedWithin net k) (resists : ResistsAtMost net r) where
-  -- the least lift
+  -- The least lift.
   pub lift_within : 0 < net.nodes → (y : ℕ → ℤ) × IsLift rule net y × ((i : ℕ) → i < net.nodes → y i ≤ℤ pos (margin net k r)) × ((z : ℕ → ℤ) → IsLift rule net z → (i : ℕ) → i < net.nodes → y i ≤ℤ z i)
   lift_within some = least_lift rule of_rule net wf r (flow_reach net) k resists tells (allowed_room net wf some) supplied
 

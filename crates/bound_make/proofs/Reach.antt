@@ -30,7 +30,7 @@ counts_one (suc n) a t l = elim (cases_eq a n) [
   | inr ne ↦ let h = counts_one n a t (omega arith) in omega arith
 ]
 
--- each resistor stands at one node at least
+-- Each resistor stands at one node at least.
 pub resistors_le_degrees : (n : ℕ) (rs : List Resistor) → All (IsResistorOf n) rs → length rs ≤ over_nodes n (degree rs)
 resistors_le_degrees n [] all = omega arith
 resistors_le_degrees n (r ∷ rs) all =
@@ -47,14 +47,14 @@ module _ (net : Network) (wf : IsNetwork net) where
   pub reach_is : flow_reach net ≡ total_load net + 130 * (degrees + net.nodes)
   reach_is = let a = over_add net.nodes (degree net.resistors) (λ i. 1) in let b = over_same net.nodes 1 in omega arith
 
-  -- what a lift on its way may send over a cut
+  -- What a lift on its way may send over a cut.
   pub allowed_room : 0 < net.nodes → over_nodes net.nodes (allowed net) + length net.resistors < flow_reach net
   allowed_room h =
       let a = over_add net.nodes (λ i. load_size net i) (degree net.resistors) in
       let b = resistors_le_degrees net.nodes net.resistors wf.each_resistor in
       omega (arith, reach_is)
 
-  -- what a tight list may send over a cut
+  -- What a tight list may send over a cut.
   abbrev pub tight_limit : ℕ → ℕ
   tight_limit i = load_size net i + (64 * (degree net.resistors i + 1) + 1)
 

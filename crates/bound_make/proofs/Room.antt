@@ -18,11 +18,11 @@ limit = pos flow_limit
 times_zero : (r : ℤ) → r *ℤ pos 0 ≡ pos 0
 times_zero r = let a = times_sum r (pos 0) (pos 0) in omega (arith, ints, a)
 
--- a flow is as it is, or held at one end of the limit
+-- A flow is as it is, or held at one end of the limit.
 abbrev IsHeld : ℤ → Type 0
 IsHeld a = (held limit a ≡ a) ⊎ (((held limit a ≡ limit) × (limit ≤ℤ a)) ⊎ ((held limit a ≡ neg_ℤ limit) × (a <ℤ neg_ℤ limit)))
 
--- a flow that is not held at the upper limit is at least the floor, and its potential lies between 0 and the difference, or near it
+-- A flow that is not held at the upper limit is at least the floor, and its potential lies between 0 and the difference, or near it.
 module _ (z r u : ℤ) (resists : pos 1 ≤ℤ r) (few : r ≤ℤ pos (10 ^ 12)) (within : IsInLimit (2 * value_limit) z) (some : pos 1 ≤ℤ u) where
   abbrev F : ℤ
   F = floor_div z r
@@ -57,7 +57,7 @@ module _ (z r u : ℤ) (resists : pos 1 ≤ℤ r) (few : r ≤ℤ pos (10 ^ 12))
   pub units_fit : units ≤ℤ far
   units_fit = omega (arith, ints, clamps, most_fits)
 
-  -- the units that are taken fit
+  -- The units that are taken fit.
   pub units_far : (r *ℤ units) ≤ℤ far
   units_far =
       let a = times_le r units most (omega (arith, ints, resists)) (omega (arith, ints, clamps)) in
@@ -71,7 +71,7 @@ module _ (z r u : ℤ) (resists : pos 1 ≤ℤ r) (few : r ≤ℤ pos (10 ^ 12))
   pub flow_within : IsInLimit flow_limit flow
   flow_within = (omega (arith, ints, clamps), omega (arith, ints, clamps))
 
-  -- a flow's difference of potential is near the difference, or between it and 0 where the flow is held
+  -- A flow's difference of potential is near the difference, or between it and 0 where the flow is held.
   pub flow_volts : IsInLimit (3 * value_limit) (r *ℤ flow)
   flow_volts = by_case (held_cases F)
     where

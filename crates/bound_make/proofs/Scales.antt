@@ -21,7 +21,7 @@ no_pad = record { node = 0; volts = pos 0 }
 abbrev IsMet : List Pad → ℤ → Type 0
 IsMet pads z = ((length pads ≡ 0) × (z ≡ pos 0)) ⊎ ((place : ℕ) × (place < length pads) × ((d : Pad) → (get_or pads place d).volts ≡ z))
 
--- a pad of the list that has the number
+-- A pad of the list that has the number.
 met_here : (pads : List Pad) (k : ℕ) (e : Pad) (z : ℤ) → k < length pads → z ≡ (get_or pads k e).volts → IsMet pads z
 met_here pads k e z l is = inr (k, l, λ d. ap (λ (p : Pad). p.volts) (get_or_default pads k d e l) ∙ sym is)
 

@@ -25,7 +25,7 @@ held_nothing = held_is.none
 times_nothing : (c : ℤ) → c *ℤ pos 0 ≡ pos 0
 times_nothing c = let a = times_sum c (pos 0) (pos 0) in omega (arith, ints, a)
 
--- a sum of terms, each greater by at most c
+-- A sum of terms, each greater by at most c.
 total_more_by : (f g : ℕ → ℤ) (c : ℤ) (ks : List ℕ) → ((k : ℕ) → k < length ks → (g (get_or ks k 0) -ℤ f (get_or ks k 0)) ≤ℤ c) → total g ks ≤ℤ (total f ks +ℤ c *ℤ pos (length ks))
 total_more_by f g c [] h = omega (arith, ints, times_nothing c)
 total_more_by f g c (k ∷ ks) h =
@@ -39,7 +39,7 @@ module _ (n : ℕ) (rs : List Resistor) (of_rs : All (IsResistorOf n) rs) (x : L
   pub is_place : (k : ℕ) → k < length around → get_or around k 0 < length rs
   is_place k l = (subst (λ (ks : List ℕ). All (λ p. p < length rs) ks) (sym around_is) (places_are_places rs node)) k 0 l
 
-  -- the difference over the resistor at a place moves with the node, but over a resistor from the node to itself
+  -- The difference over the resistor at a place moves with the node, but over a resistor from the node to itself.
   moved_flow : (y : ℕ → ℤ) (e : ℤ) (place : ℕ) → place < length rs → IsMovedAt n node e (entry_of x) y
       → let r = get_or rs place no_resistor in (y node -ℤ y (other_end r node) ≡ (entry_of x node -ℤ entry_of x (other_end r node)) +ℤ e) ⊎ (y node -ℤ y (other_end r node) ≡ entry_of x node -ℤ entry_of x (other_end r node))
   moved_flow y e place l move =
@@ -73,21 +73,21 @@ module _ (n : ℕ) (rs : List Resistor) (of_rs : All (IsResistorOf n) rs) (x : L
         | inr same ↦ (let b = ap (λ z. held_rule z r.ohms) same in omega (arith, ints, b, some))
       ]
 
-  -- raised by less than the step, the node's flows are greater by at most (units - 1) for each resistor
+  -- Raised by less than the step, the node's flows are greater by at most (units - 1) for each resistor.
   pub grown : (units step : ℤ) → pos 1 ≤ℤ units → ((k : ℕ) → k < length around → GrowsLess rs x node units step (get_or around k 0)) → (y : ℕ → ℤ) (e : ℤ) → pos 0 ≤ℤ e → e <ℤ step → IsMovedAt n node e (entry_of x) y
       → outflow held_rule rs y node ≤ℤ (outflow held_rule rs (entry_of x) node +ℤ pos (length around) *ℤ (units -ℤ pos 1))
   grown units step some room y e least less move =
       let a = total_more_by (flow_over held_rule rs (entry_of x) node no_resistor) (flow_over held_rule rs y node no_resistor) (units -ℤ pos 1) around (λ k l. grows_at units step some y e least less move (get_or around k 0) (is_place k l) (room k l)) in
       omega (arith, ints, a, outflow_is y, outflow_is (entry_of x), *ℤ_comm (units -ℤ pos 1) (pos (length around)))
 
-  -- lowered by the step, they are smaller by at most so many units for each resistor
+  -- Lowered by the step, they are smaller by at most so many units for each resistor.
   pub fallen : (units step : ℤ) → pos 1 ≤ℤ units → pos 0 ≤ℤ step → ((k : ℕ) → k < length around → FallsAtMost rs x node units step (get_or around k 0)) → (y : ℕ → ℤ) → IsMovedAt n node (neg_ℤ step) (entry_of x) y
       → outflow held_rule rs (entry_of x) node ≤ℤ (outflow held_rule rs y node +ℤ pos (length around) *ℤ units)
   fallen units step some least room y move =
       let a = total_more_by (flow_over held_rule rs y node no_resistor) (flow_over held_rule rs (entry_of x) node no_resistor) units around (λ k l. falls_at units step some y least move (get_or around k 0) (is_place k l) (room k l)) in
       omega (arith, ints, a, outflow_is y, outflow_is (entry_of x), *ℤ_comm units (pos (length around)))
 
--- what is missing is more than one unit less than the share of each resistor, all resistors together
+-- What is missing is more than one unit less than the share of each resistor, all resistors together.
 pub shares_up : (n : ℕ) (count missing units : ℤ) → count ≡ int_max (pos n) (pos 1) → units ≡ ceil_div missing count → pos 1 ≤ℤ missing → (pos 1 ≤ℤ units) × ((pos n *ℤ (units -ℤ pos 1)) <ℤ missing)
 shares_up n count missing units m u some =
     let least : pos 1 ≤ℤ count = omega (arith, ints, clamps, m) in
@@ -98,7 +98,7 @@ shares_up n count missing units m u some =
     let wide : ((units -ℤ pos 1) *ℤ pos n) ≤ℤ ((units -ℤ pos 1) *ℤ count) = times_le (units -ℤ pos 1) (pos n) count (omega (arith, ints, units_some)) (omega (arith, ints, clamps, m)) in
     (units_some, omega (arith, ints, q.last_is_below, same, wide, *ℤ_comm (units -ℤ pos 1) (pos n), *ℤ_comm (units -ℤ pos 1) count))
 
--- what is spare is at least the share of each resistor, all resistors together
+-- What is spare is at least the share of each resistor, all resistors together.
 pub shares_down : (n : ℕ) (count spare units : ℤ) → count ≡ int_max (pos n) (pos 1) → units ≡ floor_div spare count → pos (64 * (n + 1)) <ℤ spare → (pos 1 ≤ℤ units) × ((pos n *ℤ units) ≤ℤ spare)
 shares_down n count spare units m u some =
     let least : pos 1 ≤ℤ count = omega (arith, ints, clamps, m) in

@@ -10,14 +10,14 @@ use Rattle.bound_make.proofs.Cut.{sum_to, sum_to_le, sum_to_add, own_term, other
 use Rattle.bound_make.proofs.Lift.{find_first, raise_at, raise_at_step, sum_raised}
 use Rattle.bound_make.proofs.Range.{high_roof, high_floor}
 
--- a difference of two sums, as a natural number that is not passed
+-- A difference of two sums, as a natural number that is not passed.
 gap_fuel : (a b : ℤ) → (n : ℕ) × (b <ℤ (a +ℤ pos n))
 gap_fuel (pos a) (pos b) = (suc b, omega (arith, ints))
 gap_fuel (pos a) (negsuc b) = (1, omega (arith, ints))
 gap_fuel (negsuc a) (pos b) = (suc (suc (a + b)), omega (arith, ints))
 gap_fuel (negsuc a) (negsuc b) = (suc (suc a), omega (arith, ints))
 
--- the list with one less at a node
+-- The list with one less at a node.
 abbrev pub lower_at : (ℕ → ℤ) → ℕ → ℕ → ℤ
 lower_at y i j = y j -ℤ cond (eqb i j) (pos 1) (pos 0)
 
@@ -61,7 +61,7 @@ module _ (rule : FlowRule) (of_rule : IsFlowRule rule) (net : Network) (wf : IsN
   loose_or_tight x i None e = by_lt_z (pos (64 * (degree net.resistors i + 1))) ((outflow rule net.resistors x i +ℤ low_load net i) -ℤ pos 1) (λ lt. inl (e, lt)) (λ le. inr (λ none. le))
   loose_or_tight x i (Some v) e = inr (λ none. absurd (let f : ◌≡◌ {A = Option ℤ} (Some v) None = sym e ∙ none in cc))
 
-  -- two lists that agree at each node have the same sums
+  -- Two lists that agree at each node have the same sums.
   same_outflow : (x z : ℕ → ℤ) → ((j : ℕ) → j < net.nodes → x j ≡ z j) → (i : ℕ) → i < net.nodes → outflow rule net.resistors x i ≤ℤ outflow rule net.resistors z i
   same_outflow x z same i l =
       let here = same i l in

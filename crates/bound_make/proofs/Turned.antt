@@ -8,7 +8,7 @@ use Rattle.bound_make.specs.inside.Mirror.{LowHoldsBy, IsTightBelow}
 use Rattle.grid_net.specs.Mirror.{turned_rule, turned_pad, turned_load, mirror}
 
 module _ (rule : FlowRule) (net : Network) (x z : ℕ → ℤ) (is : (j : ℕ) → x j ≡ neg_ℤ (z j)) where
-  -- x is the negative of z: x satisfies the low half where z satisfies the high half of the mirror
+  -- x is the negative of z: x satisfies the low half where z satisfies the high half of the mirror.
   pub low_from_high : HighHoldsBy rule (mirror net) z → LowHoldsBy rule net x
   low_from_high h = record {
     pads = λ i v l e. let k = h.pads i (neg_ℤ v) l (pad_in net i v e) in omega (arith, ints, k, is i);

@@ -40,7 +40,8 @@ impl Model for Certifier {
 
     ghost view = { λ c. c.net };
 
-    ghost invariant = { λ c. (length c.memory.high.items ≡ c.net.nodes) × (length c.memory.low.items ≡ c.net.nodes) × IsGreatestLevel c.net c.memory.level };
+    ghost invariant = { λ c. (length c.memory.high.items ≡ c.net.nodes) × (length c.memory.low.items ≡ c.net.nodes)
+        × IsGreatestLevel c.net c.memory.level };
 }
 
 /// The level of a node, where each node is supplied.
@@ -99,7 +100,8 @@ fn fill<V: Solver>(
     requires level { IsGreatestLevel net.now level }
     ensures certificate { IsCertificate net.now high.new low.new }
     ensures tight { IsTight net.now high.new low.new }
-    ensures range { (s : Range) × IsScaleOf net.now s × LieInRange net.now s high.new low.new × MadeOfTold net.now s (V.told solver.old) high.new low.new }
+    ensures range { (s : Range) × IsScaleOf net.now s × LieInRange net.now s high.new low.new
+        × MadeOfTold net.now s (V.told solver.old) high.new low.new }
     ensures asked { Rose (V.proposals solver.old) (V.proposals solver.new) }
     ensures told { V.told solver.new ≡ V.told solver.old }
 {
@@ -117,7 +119,8 @@ fn certify_in<V: Solver>(net: Net, memory: Memory, solver: &mut V) -> Certified
     requires low { length memory.low.items ≡ net.nodes }
     requires level { IsGreatestLevel net memory.level }
     ensures net { result.net ≡ net }
-    ensures range { (s : Range) × IsScaleOf net s × LieInRange net s result.high result.low × MadeOfTold net s (V.told solver.old) result.high result.low }
+    ensures range { (s : Range) × IsScaleOf net s × LieInRange net s result.high result.low
+        × MadeOfTold net s (V.told solver.old) result.high result.low }
     ensures asked { Rose (V.proposals solver.old) (V.proposals solver.new) }
     ensures told { V.told solver.new ≡ V.told solver.old }
 {
@@ -144,12 +147,15 @@ impl Certifier {
         }
     }
 
-    /// Makes a tight certificate of the network out of what a solver proposes. It takes no memory, and there is no refusal.
+    /// Makes a tight certificate of the network out of what a solver proposes. It takes no memory, and there is no
+    /// refusal.
     ///
-    /// Whatever is proposed, the lists lie in the ranges of the network. Where the solver tells what it proposes, the lists stand to the starts of its proposals as told.
+    /// Whatever is proposed, the lists lie in the ranges of the network. Where the solver tells what it proposes, the
+    /// lists stand to the starts of its proposals as told.
     pub fn certify<V: Solver>(self, solver: &mut V) -> Certified
         ensures net { result.net ≡ self }
-        ensures range { (s : Range) × IsScaleOf self s × LieInRange self s result.high result.low × MadeOfTold self s (V.told solver.old) result.high result.low }
+        ensures range { (s : Range) × IsScaleOf self s × LieInRange self s result.high result.low
+            × MadeOfTold self s (V.told solver.old) result.high result.low }
         ensures asked { Rose (V.proposals solver.old) (V.proposals solver.new) }
         ensures told { V.told solver.new ≡ V.told solver.old }
     {

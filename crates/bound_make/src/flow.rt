@@ -26,7 +26,8 @@ pub fn difference_at(resistors: &[Resistor], x: &[i128], node: u32, place: u32) 
     requires node_in { node < length x.now }
     requires ends { All (IsResistorOf (length x.now)) resistors.now }
     requires values { All (IsInLimit value_limit) x.now }
-    ensures value { result ≡ entry_of x.now node -ℤ entry_of x.now (other_end (slice_index_or resistors.now place no_resistor) node) }
+    ensures value { result ≡ entry_of x.now node -ℤ entry_of x.now
+        (other_end (slice_index_or resistors.now place no_resistor) node) }
     ensures within { IsInLimit (2 * value_limit) result }
 {
     let other = resistors[place as usize].end_across(node);

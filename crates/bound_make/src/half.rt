@@ -5,7 +5,8 @@ ghost use Rattle.bound_make.specs.inside.Half.{seen, seen_volts};
 
 use grid_net::Net;
 
-/// Which of the two lists is made. The low list is made as the high list of the network in which every voltage and every load is turned in sign.
+/// Which of the two lists is made. The low list is made as the high list of the network in which every voltage and
+/// every load is turned in sign.
 #[derive(Clone, Copy, Debug, PartialEq, Eq)]
 pub enum Half {
     High,

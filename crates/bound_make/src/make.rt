@@ -22,12 +22,14 @@ fn brought(scale: Scale, proposed: i128) -> i128
     proposed.clamp(least, most)
 }
 
-/// The entry of a start, as the half sees it: the pad's voltage at a pad, and else the proposal, brought into the range.
+/// The entry of a start, as the half sees it: the pad's voltage at a pad, and else the proposal, brought into the
+/// range.
 fn start_at(net: &Net, half: Half, scale: Scale, proposed: i128, node: u32) -> i128
     requires built { IsBuilt net.now }
     requires node_in { node < net.now.nodes }
     requires room { HasRoom scale.bottom scale.top scale.width }
-    ensures { result ≡ seen_volts half (start_value scale.bottom scale.top (unsigned_abs scale.width) proposed (pad_at net.now node)) }
+    ensures { result ≡ seen_volts half (start_value scale.bottom scale.top (unsigned_abs scale.width) proposed
+        (pad_at net.now node)) }
 {
     match net.pad(node) {
         Some(volts) => seen_from(half, volts),
@@ -41,7 +43,9 @@ fn make_start(net: &Net, half: Half, scale: Scale, x: &mut [i128])
     requires size { length x.old ≡ net.now.nodes }
     requires room { HasRoom scale.bottom scale.top scale.width }
     ensures size { length x.new ≡ net.now.nodes }
-    ensures each { (i : ℕ) → i < net.now.nodes → entry_of x.new i ≡ seen_volts half (start_value scale.bottom scale.top (unsigned_abs scale.width) (entry_of x.old i) (pad_at net.now i)) }
+    ensures each { (i : ℕ) → i < net.now.nodes
+        → entry_of x.new i ≡ seen_volts half (start_value scale.bottom scale.top (unsigned_abs scale.width)
+        (entry_of x.old i) (pad_at net.now i)) }
 {
     let mut node: u32 = 0;
     for entry in x.iter_mut() {

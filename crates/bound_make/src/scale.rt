@@ -86,7 +86,9 @@ fn reach(net: &Net) -> i128
 pub fn scale_of(net: &Net, level: u32) -> Scale
     requires { IsGreatestLevel net.now level }
     ensures room { HasRoom result.bottom result.top result.width }
-    ensures exact { (s : RangeOf) × IsScaleOf net.now s × (s.bottom ≡ result.bottom) × (s.top ≡ result.top) × (scale_width net.now s ≡ unsigned_abs result.width) × IsRangeOf net.now s.bottom s.top (scale_width net.now s) }
+    ensures exact { (s : RangeOf) × IsScaleOf net.now s × (s.bottom ≡ result.bottom) × (s.top ≡ result.top)
+        × (scale_width net.now s ≡ unsigned_abs result.width)
+        × IsRangeOf net.now s.bottom s.top (scale_width net.now s) }
 {
     let _nodes = net.nodes();
     let pads = net.pads();

@@ -13,13 +13,15 @@ use rounding::{div_ceil, div_floor};
 /// No node is moved farther than this at once.
 const GREATEST_STEP: i128 = GREATEST_VALUE;
 
-/// How far a difference of potential has to grow until the held flow is so many units greater. Where it cannot be, the greatest step.
+/// How far a difference of potential has to grow until the held flow is so many units greater. Where it cannot be,
+/// the greatest step.
 fn rise_room(difference: i128, ohms: i128, units: i128) -> i128
     requires difference { IsInLimit (2 * value_limit) difference }
     requires ohms { (pos 1 ≤ℤ ohms) × (ohms ≤ℤ pos greatest_resistance) }
     requires units { pos 1 ≤ℤ units }
     ensures positive { pos 1 ≤ℤ result }
-    ensures room { (e : ℤ) → pos 0 ≤ℤ e → e <ℤ result → (held_rule (difference +ℤ e) ohms -ℤ held_rule difference ohms) <ℤ units }
+    ensures room { (e : ℤ) → pos 0 ≤ℤ e → e <ℤ result
+        → (held_rule (difference +ℤ e) ohms -ℤ held_rule difference ohms) <ℤ units }
 {
     let flow = held_flow(difference, ohms);
     if flow >= GREATEST_FLOW {
@@ -29,13 +31,15 @@ fn rise_room(difference: i128, ohms: i128, units: i128) -> i128
     ohms * (flow + more) - difference
 }
 
-/// How far a difference of potential may fall with the held flow falling by at most so many units. Where it cannot fall, the greatest step.
+/// How far a difference of potential may fall with the held flow falling by at most so many units. Where it cannot
+/// fall, the greatest step.
 fn fall_room(difference: i128, ohms: i128, units: i128) -> i128
     requires difference { IsInLimit (2 * value_limit) difference }
     requires ohms { (pos 1 ≤ℤ ohms) × (ohms ≤ℤ pos greatest_resistance) }
     requires units { pos 1 ≤ℤ units }
     ensures positive { pos 1 ≤ℤ result }
-    ensures room { (e : ℤ) → pos 0 ≤ℤ e → e ≤ℤ result → (held_rule difference ohms -ℤ held_rule (difference -ℤ e) ohms) ≤ℤ units }
+    ensures room { (e : ℤ) → pos 0 ≤ℤ e → e ≤ℤ result
+        → (held_rule difference ohms -ℤ held_rule (difference -ℤ e) ohms) ≤ℤ units }
 {
     let flow = held_flow(difference, ohms);
     if flow <= -GREATEST_FLOW {
@@ -85,7 +89,8 @@ fn least_rise(resistors: &[Resistor], around: &[u32], x: &[i128], node: u32, uni
     requires units { pos 1 ≤ℤ units }
     ensures positive { pos 1 ≤ℤ result }
     ensures at_most { result ≤ℤ pos value_limit }
-    ensures room { (k : ℕ) → k < length around.now → GrowsLess resistors.now x.now node units result (slice_index_or around.now k 0) }
+    ensures room { (k : ℕ) → k < length around.now
+        → GrowsLess resistors.now x.now node units result (slice_index_or around.now k 0) }
 {
     let mut least = GREATEST_STEP;
     for place in around {
@@ -105,7 +110,8 @@ fn least_fall(resistors: &[Resistor], around: &[u32], x: &[i128], node: u32, uni
     requires units { pos 1 ≤ℤ units }
     ensures positive { pos 1 ≤ℤ result }
     ensures at_most { result ≤ℤ pos value_limit }
-    ensures room { (k : ℕ) → k < length around.now → FallsAtMost resistors.now x.now node units result (slice_index_or around.now k 0) }
+    ensures room { (k : ℕ) → k < length around.now
+        → FallsAtMost resistors.now x.now node units result (slice_index_or around.now k 0) }
 {
     let mut least = GREATEST_STEP;
     for place in around {
@@ -124,7 +130,9 @@ pub fn rise_step(net: &Net, x: &[i128], node: u32, missing: i128) -> i128
     requires missing { pos 1 ≤ℤ missing }
     ensures positive { pos 1 ≤ℤ result }
     ensures at_most { result ≤ℤ pos value_limit }
-    ensures room { (e : ℤ) (y : ℕ → ℤ) → pos 0 ≤ℤ e → e <ℤ result → IsMovedAt net.now.nodes node e (entry_of x.now) y → outflow held_rule net.now.resistors y node <ℤ (outflow held_rule net.now.resistors (entry_of x.now) node +ℤ missing) }
+    ensures room { (e : ℤ) (y : ℕ → ℤ) → pos 0 ≤ℤ e → e <ℤ result → IsMovedAt net.now.nodes node e (entry_of x.now) y
+        → outflow held_rule net.now.resistors y node <ℤ
+        (outflow held_rule net.now.resistors (entry_of x.now) node +ℤ missing) }
 {
     let around = net.around(node);
     let count = (around.len() as i128).max(1);
@@ -140,7 +148,9 @@ pub fn fall_step(net: &Net, x: &[i128], node: u32, spare: i128) -> i128
     requires spare { pos (most_excess net.now node) <ℤ spare }
     ensures positive { pos 1 ≤ℤ result }
     ensures at_most { result ≤ℤ pos value_limit }
-    ensures room { (y : ℕ → ℤ) → IsMovedAt net.now.nodes node (neg_ℤ result) (entry_of x.now) y → (outflow held_rule net.now.resistors (entry_of x.now) node -ℤ spare) ≤ℤ outflow held_rule net.now.resistors y node }
+    ensures room { (y : ℕ → ℤ) → IsMovedAt net.now.nodes node (neg_ℤ result) (entry_of x.now) y
+        → (outflow held_rule net.now.resistors (entry_of x.now) node -ℤ spare)
+        ≤ℤ outflow held_rule net.now.resistors y node }
 {
     let around = net.around(node);
     let count = (around.len() as i128).max(1);

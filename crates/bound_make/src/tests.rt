@@ -1,21 +1,23 @@
-use super::level::levels;
 use super::*;
 use bound_check::{Certified, is_certificate, is_tight};
-use grid_net::{Fixed, Load, Net, Pad, Resistor};
-use std::alloc::Global;
+use grid_net::hostile::{Alternating, Everywhere, Filling};
+use grid_net::{Fixed, Load, Net, Pad, Resistor, Solver};
 use std::process::Abort;
 
+/// An ohm, in nano-ohms.
 const OHM: i128 = 1_000_000_000;
 
+/// A volt, in yoctovolts.
 const VOLT: i128 = 1_000_000_000_000_000_000_000_000;
 
+/// A milliampere, in femtoamperes.
 const MILLI: i64 = 1_000_000_000_000;
 
 /// A pad at p, a resistor from p to n, and a load at n. Nodes in the order of their names: n, p.
-fn one_resistor(rt: &impl Abort, alloc: Global, ohms: i128, volts: i128, amps: i64) -> Net {
-    let resistors = vec![in alloc; Resistor { a: 1, b: 0, ohms }].expect(rt, "a resistor");
-    let pads = vec![in alloc; Pad { node: 1, volts }].expect(rt, "a pad");
-    let loads = vec![in alloc;
+fn one_resistor(rt: &(impl AllocGlobal + Abort), ohms: i128, volts: i128, amps: i64) -> Net {
+    let resistors = vec![in rt.alloc(); Resistor { a: 1, b: 0, ohms }].expect(rt, "a resistor");
+    let pads = vec![in rt.alloc(); Pad { node: 1, volts }].expect(rt, "a pad");
+    let loads = vec![in rt.alloc();
         Load {
             node: 0,
             low: amps,
@@ -23,96 +25,173 @@ fn one_resistor(rt: &impl Abort, alloc: Global, ohms: i128, volts: i128, amps: i
         },
     ]
     .expect(rt, "a load");
-    Net::build(alloc, 2, resistors, pads, loads).expect(rt, "a network")
+    Net::build(rt.alloc(), 2, resistors, pads, loads).expect(rt, "a network")
 }
 
-fn listed(rt: &impl Abort, alloc: Global, entries: &[i128]) -> Vec<i128> {
-    let mut list = Vec::new(alloc);
-    for entry in entries {
-        list.push(*entry).expect(rt, "memory");
+/// A small grid of a power and a ground net: ten resistors, a pad of each net, and a load between the two.
+fn small_grid(rt: &(impl AllocGlobal + Abort)) -> Net {
+    let mut resistors = Vec::new(rt.alloc());
+    for (a, b, ohms) in [
+        (0u32, 1u32, 1_666_666_667i128),
+        (0, 11, 1_666_666_667),
+        (1, 2, 612_500_000),
+        (3, 4, 2_458_823_529),
+        (4, 5, 1_666_666_667),
+        (5, 6, 1_666_666_667),
+        (6, 8, 1_666_666_667),
+        (7, 8, 612_500_000),
+        (9, 10, 2_011_764_706),
+        (9, 11, 1_666_666_667),
+    ] {
+        resistors
+            .push(Resistor { a, b, ohms })
+            .expect(rt, "a resistor");
     }
-    list
+    let pads = vec![in rt.alloc();
+        Pad { node: 2, volts: 0 },
+        Pad {
+            node: 7,
+            volts: 1_100_000_000_000_000_000_000_000
+        },
+    ]
+    .expect(rt, "two pads");
+    let amps: i64 = 333_300_000_000;
+    let loads = vec![in rt.alloc();
+        Load {
+            node: 3,
+            low: amps,
+            high: amps
+        },
+        Load {
+            node: 10,
+            low: -amps,
+            high: -amps
+        },
+    ]
+    .expect(rt, "two loads");
+    Net::build(rt.alloc(), 12, resistors, pads, loads).expect(rt, "a network")
 }
 
-fn certified(rt: &impl Abort, alloc: Global, net: Net, high: &[i128], low: &[i128]) -> Certified {
-    let mut solver = Fixed::new(listed(rt, alloc, high), listed(rt, alloc, low));
-    let certifier = match Certifier::reserve(alloc, net) {
-        Ok(certifier) => certifier,
+/// What is certified of a network, tested anew.
+fn certified<V: Solver>(rt: &(impl AllocGlobal + Abort), net: Net, solver: &mut V) -> Certified {
+    match net.supply() {
+        Ok(()) => {}
+        Err(_) => panic!(rt; "a node that is not supplied"),
+    }
+    let made = match Certifier::reserve(rt.alloc(), net) {
+        Ok(certifier) => certifier.certify(solver),
         Err(_) => panic!(rt; "no memory"),
     };
-    let made = certifier.certify(&mut solver);
-    assert!(rt;
-        is_certificate(made.net(), made.high(), made.low()) == Ok(()),
-        "a certificate"
-    );
-    assert!(rt;
-        is_tight(made.net(), made.high(), made.low()) == Ok(()),
-        "tight"
-    );
+    match is_certificate(made.net(), made.high(), made.low()) {
+        Ok(()) => {}
+        Err(_) => panic!(rt; "no certificate"),
+    }
+    match is_tight(made.net(), made.high(), made.low()) {
+        Ok(()) => {}
+        Err(_) => panic!(rt; "not tight"),
+    }
     made
 }
 
 #[test]
 fn hostile_proposals(rt: HostRuntime) {
-    let least = i128::MIN;
-    let most = i128::MAX;
-    for (a, b) in [
-        (least, least),
-        (most, most),
-        (least, most),
-        (most, least),
-        (0, 0),
-        (VOLT, VOLT),
-    ] {
-        let made = certified(
-            &rt,
-            rt.alloc(),
-            one_resistor(&rt, rt.alloc(), OHM, VOLT, MILLI),
-            [a, a].as_slice(),
-            [b, b].as_slice(),
-        );
-        assert!(rt;
-            made.sweeps() <= 4,
-            "{a} {b}: high {} low {} sweeps {}",
-            made.high()[0],
-            made.low()[0],
-            made.sweeps()
-        );
+    for number in [i128::MIN, i128::MAX, 0, VOLT] {
+        let mut solver = Everywhere::new(number);
+        let made = certified(&rt, one_resistor(&rt, OHM, VOLT, MILLI), &mut solver);
+        assert!(rt; made.voltage(0) == (998999999, 999000001), "{number}");
+        let grid = certified(&rt, small_grid(&rt), &mut solver);
+        assert!(rt; grid.voltage(3) == (1097309827, 1097309828), "{number}");
     }
+    let mut alternating = Alternating::new();
+    let made = certified(&rt, one_resistor(&rt, OHM, VOLT, MILLI), &mut alternating);
+    assert!(rt; made.voltage(0) == (998999999, 999000001), "alternating");
+    let grid = certified(&rt, small_grid(&rt), &mut alternating);
+    assert!(rt; grid.voltage(10) == (2541167, 2541168), "alternating");
+    let mut filling = Filling::new();
+    let made = certified(&rt, one_resistor(&rt, OHM, VOLT, MILLI), &mut filling);
+    assert!(rt; made.voltage(0) == (998999999, 999000001), "filling");
+    let grid = certified(&rt, small_grid(&rt), &mut filling);
+    assert!(rt; grid.voltage(10) == (2541167, 2541168), "filling");
+}
+
+#[test]
+fn a_proposal_that_is_tight_is_kept(rt: HostRuntime) {
     let high: [i128; 2] = [999000000000101000000000, VOLT];
     let low: [i128; 2] = [998999999999899000000000, VOLT];
-    let made = certified(
-        &rt,
-        rt.alloc(),
-        one_resistor(&rt, rt.alloc(), OHM, VOLT, MILLI),
-        high.as_slice(),
-        low.as_slice(),
+    let x = Vec::from_array(rt.alloc(), high).expect(&rt, "a list");
+    let w = Vec::from_array(rt.alloc(), low).expect(&rt, "a list");
+    let mut solver = Fixed::new(x, w);
+    let made = certified(&rt, one_resistor(&rt, OHM, VOLT, MILLI), &mut solver);
+    assert!(rt;
+        made.high()[0] == high[0] && made.low()[0] == low[0],
+        "both are kept"
     );
-    assert!(rt; made.high()[0] == high[0], "high is kept");
-    assert!(rt; made.low()[0] == low[0], "low is kept");
+    assert!(rt; made.sweeps() == 0, "no node moves");
 }
 
 #[test]
 fn bounds_of_a_nano_ohm(rt: HostRuntime) {
-    let ends: [i128; 3] = [i128::MIN, 0, i128::MAX];
-    for a in ends {
-        for b in ends {
-            let made = certified(
-                &rt,
-                rt.alloc(),
-                one_resistor(&rt, rt.alloc(), 1, 0, 1),
-                [a, a].as_slice(),
-                [b, b].as_slice(),
-            );
-            let high = made.high()[0];
-            let low = made.low()[0];
-            assert!(rt;
-                -1042 <= low && low <= high && high <= 1042,
-                "{a} {b}: {low} to {high}, {} sweeps",
-                made.sweeps()
-            );
-        }
+    for number in [i128::MIN, 0, i128::MAX] {
+        let mut solver = Everywhere::new(number);
+        let made = certified(&rt, one_resistor(&rt, 1, 0, 1), &mut solver);
+        let high = made.high()[0];
+        let low = made.low()[0];
+        assert!(rt;
+            -1042 <= low && low <= high && high <= 1042,
+            "{number}: {low} to {high}"
+        );
     }
+}
+
+/// A chain of nodes that each have a resistor of 1 ohm to the one before, with a pad at the first.
+fn chain(rt: &(impl AllocGlobal + Abort), nodes: u32) -> Net {
+    let mut resistors = Vec::new(rt.alloc());
+    for node in 1..nodes {
+        resistors
+            .push(Resistor {
+                a: node - 1,
+                b: node,
+                ohms: OHM,
+            })
+            .expect(rt, "a resistor");
+    }
+    let pads = vec![in rt.alloc();
+        Pad {
+            node: 0,
+            volts: VOLT
+        },
+    ]
+    .expect(rt, "a pad");
+    Net::build(rt.alloc(), nodes, resistors, pads, Vec::new(rt.alloc())).expect(rt, "a network")
+}
+
+/// The voltages at which 1 fA leaves each node of a chain but the first, towards the pad, times a sign; every ten
+/// thousandth
+/// node is off by 5 fA.
+fn proposal(rt: &(impl AllocGlobal + Abort), nodes: u32, sign: i128) -> Vec<i128> {
+    let mut list = Vec::new(rt.alloc());
+    let mut volts = VOLT;
+    for node in 0..nodes {
+        if node > 0 {
+            let flow = i128::from(nodes - node);
+            volts = volts.saturating_add(sign.saturating_mul(flow.saturating_mul(OHM)));
+        }
+        let off = if node % 10_000 == 5_000 {
+            sign.saturating_mul(5 * OHM)
+        } else {
+            0
+        };
+        list.push(volts.saturating_sub(off)).expect(rt, "memory");
+    }
+    list
+}
+
+#[test]
+fn a_good_proposal_takes_few_sweeps(rt: HostRuntime) {
+    let nodes: u32 = 100_000;
+    let mut solver = Fixed::new(proposal(&rt, nodes, 1), proposal(&rt, nodes, -1));
+    let made = certified(&rt, chain(&rt, nodes), &mut solver);
+    assert!(rt; made.sweeps() <= 4, "{} sweeps", made.sweeps());
 }
 
 /// A number from a row of numbers that looks random.
@@ -123,114 +202,53 @@ fn next(seed: &mut u64) -> u64 {
     *seed >> 33
 }
 
-/// A network of so many nodes, each joined to an earlier one, with as many resistors again between any two.
-fn random_net(rt: &impl Abort, alloc: Global, nodes: u64, spread: u64, seed: &mut u64) -> Net {
-    let spread = spread.clamp(1, 1000000);
-    let mut resistors = Vec::new(alloc);
-    let mut loads = Vec::new(alloc);
-    for node in 1..nodes {
-        for upper in [node, nodes] {
-            let other = next(seed) % upper;
-            let ohms = 1 + (next(seed) % spread) as i128 * (next(seed) % spread) as i128;
-            resistors
-                .push(Resistor {
-                    a: node as u32,
-                    b: other as u32,
-                    ohms,
-                })
-                .expect(rt, "memory");
-        }
-        let low = (next(seed) % 1000000000) as i64 - 300000000;
-        loads
-            .push(Load {
-                node: node as u32,
-                low,
-                high: low + (next(seed) % 1000) as i64,
-            })
-            .expect(rt, "memory");
+/// A ring of four nodes with a pad, whose resistances and loads look random.
+fn random_ring(rt: &(impl AllocGlobal + Abort), seed: &mut u64) -> Net {
+    let mut resistors = Vec::new(rt.alloc());
+    for (a, b) in [(0u32, 1u32), (1, 2), (2, 3), (3, 0), (1, 3), (2, 2)] {
+        let ohms = i128::from(next(seed) % 900) + 1;
+        resistors
+            .push(Resistor { a, b, ohms })
+            .expect(rt, "a resistor");
     }
-    let pads = vec![in alloc;
+    let pads = vec![in rt.alloc();
         Pad {
             node: 0,
             volts: VOLT
         },
     ]
     .expect(rt, "a pad");
-    Net::build(alloc, nodes as u32, resistors, pads, loads).expect(rt, "a network")
+    let amps = i64::try_from(next(seed) % 1_000_000_000).unwrap_or(0);
+    let loads = vec![in rt.alloc();
+        Load {
+            node: 1,
+            low: -amps,
+            high: amps
+        },
+        Load {
+            node: 2,
+            low: amps,
+            high: amps
+        },
+    ]
+    .expect(rt, "two loads");
+    Net::build(rt.alloc(), 4, resistors, pads, loads).expect(rt, "a network")
 }
 
 #[test]
 fn random_networks(rt: HostRuntime) {
     let mut seed: u64 = 1;
-    let mut most: u64 = 0;
-    for round in 0..24u64 {
-        let nodes = 2 + round % 9;
-        let spread = if round % 2 == 0 { 30 } else { 10 };
-        let net = random_net(&rt, rt.alloc(), nodes, spread, &mut seed);
+    for _ in 0..16u32 {
+        let net = random_ring(&rt, &mut seed);
         let mut high = Vec::new(rt.alloc());
         let mut low = Vec::new(rt.alloc());
-        for _ in 0..nodes {
-            let a = if round % 3 == 0 {
-                i128::MIN
-            } else {
-                VOLT + next(&mut seed) as i128 * 1000000000000
-            };
-            let b = if round % 5 == 0 {
-                i128::MAX
-            } else {
-                VOLT - next(&mut seed) as i128 * 1000000000000
-            };
-            high.push(a).expect(&rt, "memory");
-            low.push(b).expect(&rt, "memory");
+        for _ in 0..4u32 {
+            high.push(VOLT.saturating_add(i128::from(next(&mut seed))))
+                .expect(&rt, "memory");
+            low.push(VOLT.saturating_sub(i128::from(next(&mut seed))))
+                .expect(&rt, "memory");
         }
-        let made = certified(&rt, rt.alloc(), net, &high, &low);
-        most = most.max(made.sweeps());
+        let mut solver = Fixed::new(high, low);
+        let _made = certified(&rt, net, &mut solver);
     }
-    assert!(rt; most <= 100000, "at most {most} sweeps");
-}
-
-/// A chain of nodes with a pad at each end, its last resistor first, and one node more that is joined to none.
-fn chain(rt: &impl Abort, alloc: Global, nodes: u32) -> Net {
-    let mut resistors = Vec::new(alloc);
-    for at in 1..nodes {
-        resistors
-            .push(Resistor {
-                a: nodes - at - 1,
-                b: nodes - at,
-                ohms: OHM,
-            })
-            .expect(rt, "memory");
-    }
-    let pads = vec![in alloc;
-        Pad {
-            node: 0,
-            volts: VOLT
-        },
-        Pad {
-            node: nodes.saturating_sub(1),
-            volts: VOLT
-        },
-    ]
-    .expect(rt, "two pads");
-    Net::build(
-        alloc,
-        nodes.saturating_add(1),
-        resistors,
-        pads,
-        Vec::new(alloc),
-    )
-    .expect(rt, "a network")
-}
-
-#[test]
-fn levels_of_a_long_chain(rt: HostRuntime) {
-    let nodes: u32 = 300000;
-    let net = chain(&rt, rt.alloc(), nodes);
-    let found = levels(rt.alloc(), &net).expect(&rt, "memory");
-    assert!(rt; found.len() == nodes as usize + 1, "a level a node");
-    for at in 0..nodes {
-        let level = at.min(nodes - 1 - at);
-        assert!(rt; found[at as usize] == Some(level), "the level of node {at}");
-    }
-    assert!(rt; found[nodes as usize].is_none(), "no level without a chain");
 }

@@ -47,7 +47,13 @@ fn drawn(net: &Net, node: u32, end: End) -> i128
 }
 
 /// The currents that leave a node, and the sum of the conductances at it.
-fn flows_at(resistors: &[Resistor], around: &[u32], x: &[i128], node: u32, here: i128) -> (i128, i128) {
+fn flows_at(
+    resistors: &[Resistor],
+    around: &[u32],
+    x: &[i128],
+    node: u32,
+    here: i128,
+) -> (i128, i128) {
     let mut outflow: i128 = 0;
     let mut conductance: i128 = 0;
     for place in around {

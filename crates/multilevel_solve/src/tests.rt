@@ -14,7 +14,13 @@ fn proposals_on_one_resistor(rt: HostRuntime) {
         },
     ]
     .expect(&rt, "a resistor");
-    let pads = vec![in rt.alloc(); Pad { node: 1, volts: VOLT }].expect(&rt, "a pad");
+    let pads = vec![in rt.alloc();
+        Pad {
+            node: 1,
+            volts: VOLT
+        },
+    ]
+    .expect(&rt, "a pad");
     let milli: i64 = 1_000_000_000_000;
     let loads = vec![in rt.alloc();
         Load {
@@ -35,5 +41,10 @@ fn proposals_on_one_resistor(rt: HostRuntime) {
     let mut plain = Plain::new();
     plain.propose(&net, &mut work, &mut x, &mut w);
     assert!(rt; x == [VOLT, VOLT], "nothing is drawn: {} {}", x[0], x[1]);
-    assert!(rt; w == [VOLT - VOLT / 1000, VOLT], "a milliampere is drawn: {} {}", w[0], w[1]);
+    assert!(rt;
+        w == [VOLT - VOLT / 1000, VOLT],
+        "a milliampere is drawn: {} {}",
+        w[0],
+        w[1]
+    );
 }

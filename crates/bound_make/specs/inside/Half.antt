@@ -1,4 +1,5 @@
--- A network as each of the two lists sees it. The low list is the high list of the network in which every voltage and every load is turned in sign.
+-- A network as each of the two lists sees it. The low list is the high list of the network in which every voltage and
+-- every load is turned in sign.
 use Rattle.std.specs.Prelude.{ℤ, neg_ℤ, List, map}
 use Rattle.grid_net.specs.declared.part.Pad.{Pad}
 use Rattle.grid_net.specs.declared.part.LoadRange.{LoadRange}
@@ -7,7 +8,7 @@ use Rattle.grid_net.specs.Mirror.{turned_pad, turned_load}
 use Rattle.bound_make.specs.declared.half.Half.{Half}
 use Rattle.bound_make.specs.declared.half.Half.TheVariants.{High, Low}
 
--- a voltage as a half sees it
+-- A voltage as a half sees it.
 abbrev pub seen_volts : Half → ℤ → ℤ
 seen_volts High v = v
 seen_volts Low v = neg_ℤ v
@@ -20,6 +21,7 @@ abbrev pub seen_loads : Half → List LoadRange → List LoadRange
 seen_loads High loads = loads
 seen_loads Low loads = map turned_load loads
 
--- the network as a half sees it
+-- The network as a half sees it.
 abbrev pub seen : Half → Network → Network
-seen half net = record { nodes = net.nodes; resistors = net.resistors; pads = seen_pads half net.pads; loads = seen_loads half net.loads }
+seen half net =
+    record { nodes = net.nodes; resistors = net.resistors; pads = seen_pads half net.pads; loads = seen_loads half net.loads }

@@ -18,9 +18,9 @@ returns-clause-certificate g c =
     let w = c.propose.new.w in
     let high = c.make-of_high.new.x in
     let low = c.make-of_low.new.x in
-    let up : IsMade High net s.bottom s.top (scale_width net s) x high = at_scale High net s x high scale.bottom scale.top (unsigned_abs scale.width) e.2 e.3 e.4 c.make-of_high.ensures.made in
-    let down : IsMade Low net s.bottom s.top (scale_width net s) w low = at_scale Low net s w low scale.bottom scale.top (unsigned_abs scale.width) e.2 e.3 e.4 c.make-of_low.ensures.made in
-    certificate_made net wf s range x w high low c.make-of_high.ensures.size c.make-of_low.ensures.size up down
+    let of_high : IsMade High net s.bottom s.top (scale_width net s) x high = at_scale High net s x high scale.bottom scale.top (unsigned_abs scale.width) e.2 e.3 e.4 c.make-of_high.ensures.made in
+    let of_low : IsMade Low net s.bottom s.top (scale_width net s) w low = at_scale Low net s w low scale.bottom scale.top (unsigned_abs scale.width) e.2 e.3 e.4 c.make-of_low.ensures.made in
+    certificate_made net wf s range x w high low c.make-of_high.ensures.size c.make-of_low.ensures.size of_high of_low
 
 pub returns-clause-tight : goal.returns-clause-tight
 returns-clause-tight g c =
@@ -34,9 +34,9 @@ returns-clause-tight g c =
     let w = c.propose.new.w in
     let high = c.make-of_high.new.x in
     let low = c.make-of_low.new.x in
-    let up : IsMade High net s.bottom s.top (scale_width net s) x high = at_scale High net s x high scale.bottom scale.top (unsigned_abs scale.width) e.2 e.3 e.4 c.make-of_high.ensures.made in
-    let down : IsMade Low net s.bottom s.top (scale_width net s) w low = at_scale Low net s w low scale.bottom scale.top (unsigned_abs scale.width) e.2 e.3 e.4 c.make-of_low.ensures.made in
-    tight_made net wf s range x w high low c.make-of_high.ensures.size c.make-of_low.ensures.size up down
+    let of_high : IsMade High net s.bottom s.top (scale_width net s) x high = at_scale High net s x high scale.bottom scale.top (unsigned_abs scale.width) e.2 e.3 e.4 c.make-of_high.ensures.made in
+    let of_low : IsMade Low net s.bottom s.top (scale_width net s) w low = at_scale Low net s w low scale.bottom scale.top (unsigned_abs scale.width) e.2 e.3 e.4 c.make-of_low.ensures.made in
+    tight_made net wf s range x w high low c.make-of_high.ensures.size c.make-of_low.ensures.size of_high of_low
 
 pub returns-clause-range : goal.returns-clause-range
 returns-clause-range g c =
@@ -50,7 +50,7 @@ returns-clause-range g c =
     let w = c.propose.new.w in
     let high = c.make-of_high.new.x in
     let low = c.make-of_low.new.x in
-    let up : IsMade High net s.bottom s.top (scale_width net s) x high = at_scale High net s x high scale.bottom scale.top (unsigned_abs scale.width) e.2 e.3 e.4 c.make-of_high.ensures.made in
-    let down : IsMade Low net s.bottom s.top (scale_width net s) w low = at_scale Low net s w low scale.bottom scale.top (unsigned_abs scale.width) e.2 e.3 e.4 c.make-of_low.ensures.made in
-    let stand = stands net wf s range x w high low c.make-of_high.ensures.size c.make-of_low.ensures.size up down in
-    (s, c.scale_of-scale.ensures.exact.1, ranges_made net wf s range x w high low c.make-of_high.ensures.size c.make-of_low.ensures.size up down, told_made net s (g.V.Solver.told c.args.solver.now) x w high low stand (λ t told. if_some_is (g.V.Solver.told c.args.solver.now) (λ lists. Proposes net lists x w) t c.propose.ensures.proposed told))
+    let of_high : IsMade High net s.bottom s.top (scale_width net s) x high = at_scale High net s x high scale.bottom scale.top (unsigned_abs scale.width) e.2 e.3 e.4 c.make-of_high.ensures.made in
+    let of_low : IsMade Low net s.bottom s.top (scale_width net s) w low = at_scale Low net s w low scale.bottom scale.top (unsigned_abs scale.width) e.2 e.3 e.4 c.make-of_low.ensures.made in
+    let stand = stands net wf s range x w high low c.make-of_high.ensures.size c.make-of_low.ensures.size of_high of_low in
+    (s, c.scale_of-scale.ensures.exact.1, ranges_made net wf s range x w high low c.make-of_high.ensures.size c.make-of_low.ensures.size of_high of_low, told_made net s (g.V.Solver.told c.args.solver.now) x w high low stand (λ t told. if_some_is (g.V.Solver.told c.args.solver.now) (λ lists. Proposes net lists x w) t c.propose.ensures.proposed told))

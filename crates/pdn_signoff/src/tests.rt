@@ -237,7 +237,8 @@ fn faults_are_answered(rt: HostRuntime) -> Result<(), Fail> {
     Ok(())
 }
 
-/// Of two causes at once the one is answered that comes first in the order of the work.
+/// Of two causes at once the one is answered that comes first in the order of the work. Where the first one is that a
+/// file is too long, tests/vectors/check_long.jsonl has the cases.
 #[test]
 fn earlier_causes_come_first(rt: HostRuntime) -> Result<(), Fail> {
     let table = [
@@ -267,37 +268,12 @@ fn earlier_causes_come_first(rt: HostRuntime) -> Result<(), Fail> {
             3,
             b"pdn: ReadFault net\n",
         ),
-        // The netlist is too long, and the certificate cannot be read or is too long.
-        (
-            "check|--netlist|endless|--certificate|cert",
-            "cert",
-            4,
-            b"pdn: TooLong endless\n",
-        ),
-        (
-            "check|--netlist|endless|--certificate|none",
-            "",
-            4,
-            b"pdn: TooLong endless\n",
-        ),
-        (
-            "check|--netlist|endless|--certificate|endless",
-            "",
-            4,
-            b"pdn: TooLong endless\n",
-        ),
-        // The certificate cannot be read or is too long, and the netlist's text is not plain.
+        // The certificate cannot be read, and the netlist's text is not plain.
         (
             "check|--netlist|cert|--certificate|net",
             "net",
             3,
             b"pdn: ReadFault net\n",
-        ),
-        (
-            "check|--netlist|cert|--certificate|endless",
-            "",
-            4,
-            b"pdn: TooLong endless\n",
         ),
         // Neither text is plain.
         (
@@ -321,23 +297,18 @@ fn earlier_causes_come_first(rt: HostRuntime) -> Result<(), Fail> {
     Ok(())
 }
 
-/// A file of more than 2^28 bytes is refused, whichever of the two it is.
+/// A file of more than 2^28 bytes is refused.
 #[test]
 fn too_long_is_answered(rt: HostRuntime) -> Result<(), Fail> {
-    for words in [
-        "check|--netlist|endless|--certificate|cert",
-        "check|--netlist|net|--certificate|endless",
-    ] {
-        ends(
-            &rt,
-            words,
-            files(rt.alloc(), NETLIST, CERTIFICATE)?,
-            ("", 0),
-            0,
-            4,
-            b"pdn: TooLong endless\n",
-        )?;
-    }
+    ends(
+        &rt,
+        "check|--netlist|endless|--certificate|none",
+        files(rt.alloc(), NETLIST, CERTIFICATE)?,
+        ("", 0),
+        0,
+        4,
+        b"pdn: TooLong endless\n",
+    )?;
     Ok(())
 }
 

@@ -1,0 +1,12 @@
+//! The rails along the rows of cells.
+#![tactic(auto)]
+
+mod drawing;
+mod row;
+mod rule;
+#[cfg(test)]
+mod tests;
+
+pub use drawing::rails;
+pub use row::RowBox;
+pub use rule::RailRule;

@@ -1,4 +1,4 @@
-use Rattle.std.proofs.Common.{◌≡◌, ℤ, pos, ◌+ℤ◌, ◌*ℤ◌, subst, sym, ◌∙◌, arith, SFits, w64}
+use Rattle.std.proofs.Common.{pos, ◌+ℤ◌, ◌*ℤ◌, subst, sym, ◌∙◌, arith, SFits, w64}
 use Rattle.std.specs.Int.{w128}
 use Rattle.std.proofs.lemmas.Int.{ints, to_z-of_z}
 use Rattle.ring_layout.specs.Rings.{taken}

@@ -1,7 +1,41 @@
+ghost use Rattle.std.specs.Prelude.{◌≡◌};
+ghost use Rattle.ring_layout.specs.declared.rule.RingRule.{RingRule};
+
 use super::*;
 use entry_list::Entries;
 use geom_rect::{Axis, Drawn, Rect, Shape};
 use std::test::Fail;
+
+// A rule whose widths, spacings and offsets all have one length.
+fn even(nets: Entries<u32>, length: i64) -> RingRule
+    ensures { result ≡ record {
+      vertical = 3;
+      horizontal = 6;
+      nets = nets;
+      width_v = length;
+      width_h = length;
+      spacing_v = length;
+      spacing_h = length;
+      left = length;
+      bottom = length;
+      right = length;
+      top = length;
+    } }
+{
+    RingRule {
+        vertical: 3,
+        horizontal: 6,
+        nets,
+        width_v: length,
+        width_h: length,
+        spacing_v: length,
+        spacing_h: length,
+        left: length,
+        bottom: length,
+        right: length,
+        top: length,
+    }
+}
 
 // A side of a ring of a net, along an axis.
 fn side(net: u32, axis: Axis, width: i64, centre: i64, from: i64, to: i64) -> Drawn {
@@ -23,19 +57,7 @@ fn side(net: u32, axis: Axis, width: i64, centre: i64, from: i64, to: i64) -> Dr
 
 #[test]
 fn ring_sides(rt: HostRuntime) -> Result<(), Fail> {
-    let rule = RingRule {
-        vertical: 3,
-        horizontal: 6,
-        nets: Entries::new(vec![in rt.alloc(); 9, 4]?),
-        width_v: 4000,
-        width_h: 4000,
-        spacing_v: 4000,
-        spacing_h: 4000,
-        left: 4000,
-        bottom: 4000,
-        right: 4000,
-        top: 4000,
-    };
+    let rule = even(Entries::new(vec![in rt.alloc(); 9, 4]?), 4000);
     let core = Rect {
         x1: 0,
         y1: 0,
@@ -54,6 +76,23 @@ fn ring_sides(rt: HostRuntime) -> Result<(), Fail> {
         side(4, Axis::X, 4000, 214_000, -16_000, 216_000),
     ];
     assert_eq!(rt; drawn.as_slice(), want.as_slice());
+    Ok(())
+}
+
+// The small design's core, with widths, spacings and offsets of one micrometre.
+#[test]
+fn a_ring_of_the_small_core(rt: HostRuntime) -> Result<(), Fail> {
+    let rule = even(Entries::new(vec![in rt.alloc(); 0, 1]?), 2000);
+    let core = Rect {
+        x1: 0,
+        y1: 0,
+        x2: 8000,
+        y2: 2800,
+    };
+    let drawn = rings(rt.alloc(), &rule, core)?;
+    assert_eq!(rt; drawn.len(), 8);
+    assert_eq!(rt; drawn[0], side(0, Axis::Y, 2000, -3000, -4000, 6800));
+    assert_eq!(rt; drawn[7], side(1, Axis::X, 2000, 9800, -8000, 16_000));
     Ok(())
 }
 
@@ -87,34 +126,5 @@ fn a_ring_of_unequal_lengths(rt: HostRuntime) -> Result<(), Fail> {
         side(0, Axis::X, 60, 2835, -210, 7200),
     ];
     assert_eq!(rt; drawn.as_slice(), want.as_slice());
-    Ok(())
-}
-
-// The small design's core, with widths, spacings and offsets of one micrometre.
-#[test]
-fn a_ring_of_the_small_core(rt: HostRuntime) -> Result<(), Fail> {
-    let rule = RingRule {
-        vertical: 3,
-        horizontal: 6,
-        nets: Entries::new(vec![in rt.alloc(); 0, 1]?),
-        width_v: 2000,
-        width_h: 2000,
-        spacing_v: 2000,
-        spacing_h: 2000,
-        left: 2000,
-        bottom: 2000,
-        right: 2000,
-        top: 2000,
-    };
-    let core = Rect {
-        x1: 0,
-        y1: 0,
-        x2: 8000,
-        y2: 2800,
-    };
-    let drawn = rings(rt.alloc(), &rule, core)?;
-    assert_eq!(rt; drawn.len(), 8);
-    assert_eq!(rt; drawn[0], side(0, Axis::Y, 2000, -3000, -4000, 6800));
-    assert_eq!(rt; drawn[7], side(1, Axis::X, 2000, 9800, -8000, 16_000));
     Ok(())
 }

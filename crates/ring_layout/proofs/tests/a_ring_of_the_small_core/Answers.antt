@@ -1,7 +1,8 @@
-use Rattle.std.proofs.Common.{◌≡◌, ◌≤◌, pos, length, [], ◌∷◌, ap, ◌∙◌, arith}
+use Rattle.std.proofs.Common.{◌≡◌, ◌≤◌, pos, length, [], ◌∷◌, ap, subst, sym, ◌∙◌, arith}
 use Rattle.std.proofs.lemmas.Int.{ints}
 use Rattle.geom_rect.specs.declared.rect.Rect.{Rect}
 use Rattle.ring_layout.specs.declared.rule.RingRule.{RingRule}
+use Rattle.ring_layout.specs.Rings.{FitDrawing}
 use Rattle.ring_layout.proofs.Tested.{FourLie, two_fit}
 use Rattle.ring_layout.proofs.tests.a_ring_of_the_small_core.Goals as goal
 
@@ -13,4 +14,4 @@ rings-requires-clause-within g c =
     let few : length c.new.result ≤ 2 = omega (arith, ap length nets) in
     let inner : FourLie rule core 0 = record { left = ((omega (arith, ints), omega (arith, ints)), (omega (arith, ints), omega (arith, ints)), (omega (arith, ints), omega (arith, ints)), (omega (arith, ints), omega (arith, ints))); bottom = ((omega (arith, ints), omega (arith, ints)), (omega (arith, ints), omega (arith, ints)), (omega (arith, ints), omega (arith, ints)), (omega (arith, ints), omega (arith, ints))); right = ((omega (arith, ints), omega (arith, ints)), (omega (arith, ints), omega (arith, ints)), (omega (arith, ints), omega (arith, ints)), (omega (arith, ints), omega (arith, ints))); top = ((omega (arith, ints), omega (arith, ints)), (omega (arith, ints), omega (arith, ints)), (omega (arith, ints), omega (arith, ints)), (omega (arith, ints), omega (arith, ints))) } in
     let outer : FourLie rule core 1 = record { left = ((omega (arith, ints), omega (arith, ints)), (omega (arith, ints), omega (arith, ints)), (omega (arith, ints), omega (arith, ints)), (omega (arith, ints), omega (arith, ints))); bottom = ((omega (arith, ints), omega (arith, ints)), (omega (arith, ints), omega (arith, ints)), (omega (arith, ints), omega (arith, ints)), (omega (arith, ints), omega (arith, ints))); right = ((omega (arith, ints), omega (arith, ints)), (omega (arith, ints), omega (arith, ints)), (omega (arith, ints), omega (arith, ints)), (omega (arith, ints), omega (arith, ints))); top = ((omega (arith, ints), omega (arith, ints)), (omega (arith, ints), omega (arith, ints)), (omega (arith, ints), omega (arith, ints)), (omega (arith, ints), omega (arith, ints))) } in
-    two_fit rule core few inner outer
+    subst (λ (made : RingRule). FitDrawing made core) (sym c.even-rule.ensures) (two_fit rule core few inner outer)

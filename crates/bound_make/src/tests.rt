@@ -93,25 +93,52 @@ fn certified<V: Solver>(rt: &(impl AllocGlobal + Abort), net: Net, solver: &mut 
     made
 }
 
+/// The printed voltage of a node.
+fn printed(rt: &impl Abort, made: &Certified, node: u32) -> (i128, i128) {
+    let nodes = made.net().nodes();
+    assert!(rt; node < nodes, "a node");
+    made.voltage(node)
+}
+
+/// The two bounds of the first node.
+fn first(rt: &impl Abort, made: &Certified) -> (i128, i128) {
+    match (made.low().first(), made.high().first()) {
+        (Some(low), Some(high)) => (*low, *high),
+        _ => panic!(rt; "no node"),
+    }
+}
+
 #[test]
 fn hostile_proposals(rt: HostRuntime) {
     for number in [i128::MIN, i128::MAX, 0, VOLT] {
         let mut solver = Everywhere::new(number);
         let made = certified(&rt, one_resistor(&rt, OHM, VOLT, MILLI), &mut solver);
-        assert!(rt; made.voltage(0) == (998999999, 999000001), "{number}");
+        assert!(rt;
+            printed(&rt, &made, 0) == (998999999, 999000001),
+            "{number}"
+        );
         let grid = certified(&rt, small_grid(&rt), &mut solver);
-        assert!(rt; grid.voltage(3) == (1097309827, 1097309828), "{number}");
+        assert!(rt;
+            printed(&rt, &grid, 3) == (1097309827, 1097309828),
+            "{number}"
+        );
     }
     let mut alternating = Alternating::new();
     let made = certified(&rt, one_resistor(&rt, OHM, VOLT, MILLI), &mut alternating);
-    assert!(rt; made.voltage(0) == (998999999, 999000001), "alternating");
+    assert!(rt;
+        printed(&rt, &made, 0) == (998999999, 999000001),
+        "alternating"
+    );
     let grid = certified(&rt, small_grid(&rt), &mut alternating);
-    assert!(rt; grid.voltage(10) == (2541167, 2541168), "alternating");
+    assert!(rt;
+        printed(&rt, &grid, 10) == (2541167, 2541168),
+        "alternating"
+    );
     let mut filling = Filling::new();
     let made = certified(&rt, one_resistor(&rt, OHM, VOLT, MILLI), &mut filling);
-    assert!(rt; made.voltage(0) == (998999999, 999000001), "filling");
+    assert!(rt; printed(&rt, &made, 0) == (998999999, 999000001), "filling");
     let grid = certified(&rt, small_grid(&rt), &mut filling);
-    assert!(rt; grid.voltage(10) == (2541167, 2541168), "filling");
+    assert!(rt; printed(&rt, &grid, 10) == (2541167, 2541168), "filling");
 }
 
 #[test]
@@ -122,10 +149,7 @@ fn a_proposal_that_is_tight_is_kept(rt: HostRuntime) {
     let w = Vec::from_array(rt.alloc(), low).expect(&rt, "a list");
     let mut solver = Fixed::new(x, w);
     let made = certified(&rt, one_resistor(&rt, OHM, VOLT, MILLI), &mut solver);
-    assert!(rt;
-        made.high()[0] == high[0] && made.low()[0] == low[0],
-        "both are kept"
-    );
+    assert!(rt; first(&rt, &made) == (low[0], high[0]), "both are kept");
     assert!(rt; made.sweeps() == 0, "no node moves");
 }
 
@@ -134,8 +158,7 @@ fn bounds_of_a_nano_ohm(rt: HostRuntime) {
     for number in [i128::MIN, 0, i128::MAX] {
         let mut solver = Everywhere::new(number);
         let made = certified(&rt, one_resistor(&rt, 1, 0, 1), &mut solver);
-        let high = made.high()[0];
-        let low = made.low()[0];
+        let (low, high) = first(&rt, &made);
         assert!(rt;
             -1042 <= low && low <= high && high <= 1042,
             "{number}: {low} to {high}"

@@ -1,4 +1,5 @@
-//! Solvers, which propose the lists from which a certificate is made. They tell nothing of what they propose: a certificate
+//! Solvers, which propose the lists from which a certificate is made. They tell nothing of what they propose: a
+//! certificate
 //! never rests on it. Each returns, takes no memory, keeps the region's number of cells and counts its proposals.
 #![tactic(auto)]
 

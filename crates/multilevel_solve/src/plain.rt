@@ -1,4 +1,4 @@
-ghost use Rattle.std.specs.Prelude.{◌≡◌, ◌<◌, ℕ, None, length};
+ghost use Rattle.std.specs.Prelude.{◌≡◌, ◌<◌, ◌≤ℤ◌, ℕ, pos, None, length};
 
 use grid_net::{Net, Resistor, Solver};
 use level_region::Region;
@@ -10,8 +10,10 @@ const SWEEPS: u32 = 200;
 /// The conductance of 1 nano-ohm, in the unit in which `Plain` adds up conductances.
 const CONDUCTANCE: i128 = 1_000_000_000_000_000;
 
-/// A solver that starts with the pads' voltages and sweeps over the nodes a fixed number of times. Each node that is no pad
-/// is brought to the voltage at which the currents at it add up, in the order of the nodes' numbers: the high list for the
+/// A solver that starts with the pads' voltages and sweeps over the nodes a fixed number of times. Each node that is
+/// no pad
+/// is brought to the voltage at which the currents at it add up, in the order of the nodes' numbers: the high list
+/// for the
 /// low ends of the loads, and the low list for the high ends. It uses no cell of the region.
 ///
 /// Contracts see how many proposals it was asked for.
@@ -46,6 +48,13 @@ fn drawn(net: &Net, node: u32, end: End) -> i128
     }
 }
 
+/// A number, or 1 where it is less.
+fn at_least_one(number: i128) -> i128
+    ensures { pos 1 ≤ℤ result }
+{
+    if number < 1 { 1 } else { number }
+}
+
 /// The currents that leave a node, and the sum of the conductances at it.
 fn flows_at(
     resistors: &[Resistor],
@@ -58,7 +67,7 @@ fn flows_at(
     let mut conductance: i128 = 0;
     for place in around {
         if let Some(r) = resistors.get(*place as usize) {
-            let ohms = r.ohms.max(1);
+            let ohms = at_least_one(r.ohms);
             let there = x.get(r.end_across(node) as usize).copied().unwrap_or(here);
             outflow = outflow.saturating_add(here.saturating_sub(there) / ohms);
             conductance = conductance.saturating_add(CONDUCTANCE / ohms);
@@ -75,7 +84,8 @@ fn settled(net: &Net, x: &[i128], node: u32, end: End) -> i128
     let here = x[node as usize];
     let (outflow, conductance) = flows_at(net.resistors(), net.around(node), x, node, here);
     let spare = outflow.saturating_add(drawn(net, node, end));
-    let scaled = spare.saturating_mul(CONDUCTANCE / 1_000_000) / (conductance / 1_000_000).max(1);
+    let scaled = spare.saturating_mul(CONDUCTANCE / 1_000_000)
+        / at_least_one(conductance / 1_000_000);
     here.saturating_sub(scaled)
 }
 

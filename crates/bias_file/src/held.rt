@@ -1,20 +1,34 @@
 //! What has been read of a bias file.
-ghost use Rattle.std.specs.Prelude.{[], IfOk, ◌≡◌};
-ghost use Rattle.bias_file.specs.Held.{HoldsLists, Holds};
+//!
+//! A number of a whole unit has shown no fault, so that it can be read. Where it could not, the answer is want of memory, which no
+//! clause ties to anything; it never comes.
+ghost use Rattle.std.specs.Prelude.{[], IfOk, OnOk, ◌≡◌, true, map};
+ghost use Rattle.entry_list.specs.InTurn.{InTurn};
+ghost use Rattle.reading.specs.Word.{token};
+ghost use Rattle.bias_file.specs.declared.sort.Sort.TheVariants as sorts;
+ghost use Rattle.bias_file.specs.Rule.{lines, has_range};
+ghost use Rattle.bias_file.specs.Sort.{the, sort_of};
+ghost use Rattle.bias_file.specs.Record.{SaysSupply, SaysDropLimit, SaysAmps, SaysPad};
+ghost use Rattle.bias_file.specs.inside.Held.{HoldsLines, HoldsLists, Holds, Takes};
 
-use crate::bias::{Amps, DropLimit, PadAt, Supply};
-use crate::named::Named;
+use crate::number::{AMPERES, DROP_VOLTS, MICROMETRES, VOLTS};
+use crate::record::{Amps, DropLimit, PadAt, Supply};
 use crate::section::Section;
+use crate::sort::{Sort, sort_of};
+use entry_list::NamedEntries;
+use number_place::{number_at, small_number_at};
+use outside::Name;
+use reading::{Numbered, Word};
 use std::alloc::{AllocError, Global};
 
 /// What the lines of each kind say.
 #[derive(Drop)]
 pub(crate) struct Lists<'a> {
-    pub(crate) supplies: Named<'a, Supply>,
-    pub(crate) drops: Named<'a, DropLimit>,
+    pub(crate) supplies: NamedEntries<'a, Supply>,
+    pub(crate) drops: NamedEntries<'a, DropLimit>,
     pub(crate) pads: Vec<PadAt>,
-    pub(crate) cells: Named<'a, Amps>,
-    pub(crate) instances: Named<'a, Amps>,
+    pub(crate) cells: NamedEntries<'a, Amps>,
+    pub(crate) instances: NamedEntries<'a, Amps>,
 }
 
 impl<'a> Lists<'a> {
@@ -22,11 +36,11 @@ impl<'a> Lists<'a> {
         ensures { IfOk result (λ lists. HoldsLists [] lists) }
     {
         Ok(Lists {
-            supplies: Named::new(alloc)?,
-            drops: Named::new(alloc)?,
+            supplies: NamedEntries::new(alloc)?,
+            drops: NamedEntries::new(alloc)?,
             pads: Vec::new(alloc),
-            cells: Named::new(alloc)?,
-            instances: Named::new(alloc)?,
+            cells: NamedEntries::new(alloc)?,
+            instances: NamedEntries::new(alloc)?,
         })
     }
 }
@@ -48,5 +62,174 @@ impl<'a> Held<'a> {
             section: Section::LineStart,
             alloc,
         })
+    }
+}
+
+/// What a unit says if it is `supply NET V`.
+pub(crate) fn take_supply<'a>(
+    supplies: &mut NamedEntries<'a, Supply>,
+    alloc: Global,
+    unit: &[Word<'a>],
+) -> Result<(), AllocError>
+    ensures { OnOk result (Takes (HoldsLines SaysSupply sorts.Supply supplies.old)
+        (HoldsLines SaysSupply sorts.Supply supplies.new) (map token unit.now)) }
+{
+    let [first, net, value, _] = unit else {
+        return Ok(());
+    };
+    let Sort::Supply = sort_of(first) else {
+        return Ok(());
+    };
+    let Ok(volts) = number_at(VOLTS, value.text) else {
+        return Err(AllocError);
+    };
+    let supply = Supply {
+        line: first.place.line,
+        net: Name::new(alloc, net.text)?,
+        volts,
+    };
+    supplies.add(net.text, supply)
+}
+
+/// What a unit says if it is `droplimit NET V`.
+pub(crate) fn take_drop<'a>(
+    drops: &mut NamedEntries<'a, DropLimit>,
+    alloc: Global,
+    unit: &[Word<'a>],
+) -> Result<(), AllocError>
+    ensures { OnOk result (Takes (HoldsLines SaysDropLimit sorts.DropLimit drops.old)
+        (HoldsLines SaysDropLimit sorts.DropLimit drops.new) (map token unit.now)) }
+{
+    let [first, net, value, _] = unit else {
+        return Ok(());
+    };
+    let Sort::DropLimit = sort_of(first) else {
+        return Ok(());
+    };
+    let Ok(volts) = number_at(DROP_VOLTS, value.text) else {
+        return Err(AllocError);
+    };
+    let limit = DropLimit {
+        line: first.place.line,
+        net: Name::new(alloc, net.text)?,
+        volts,
+    };
+    drops.add(net.text, limit)
+}
+
+/// What a unit says if it is `pad NET LAYER x y`.
+pub(crate) fn take_pad(pads: &mut Vec<PadAt>, alloc: Global, unit: &[Word<'_>]) -> Result<(), AllocError>
+    ensures { OnOk result (Takes (λ units. InTurn SaysPad (lines sorts.Pad units) pads.old.items)
+        (λ units. InTurn SaysPad (lines sorts.Pad units) pads.new.items) (map token unit.now)) }
+{
+    let [first, net, layer, x, y, _] = unit else {
+        return Ok(());
+    };
+    let Sort::Pad = sort_of(first) else {
+        return Ok(());
+    };
+    let Ok(x) = small_number_at(MICROMETRES, x.text) else {
+        return Err(AllocError);
+    };
+    let Ok(y) = small_number_at(MICROMETRES, y.text) else {
+        return Err(AllocError);
+    };
+    pads.push(PadAt {
+        line: first.place.line,
+        net: Name::new(alloc, net.text)?,
+        layer: Name::new(alloc, layer.text)?,
+        x,
+        y,
+    })?;
+    Ok(())
+}
+
+/// Whether the line begins with the word of this sort, `cell` or `instance`.
+fn begins(first: &Word<'_>, word: Sort) -> bool
+    requires { has_range word ≡ true }
+    ensures { result ≡ the word (sort_of (token first.now)) }
+{
+    sort_of(first).number() == word.number()
+}
+
+/// What a unit says if it is `cell MACRO I` or `instance NAME I`, by its first word.
+fn take_current<'a>(
+    currents: &mut NamedEntries<'a, Amps>,
+    word: Sort,
+    alloc: Global,
+    unit: &[Word<'a>],
+) -> Result<(), AllocError>
+    requires { has_range word ≡ true }
+    ensures { OnOk result (Takes (HoldsLines SaysAmps word currents.old) (HoldsLines SaysAmps word currents.new)
+        (map token unit.now)) }
+{
+    let [first, name, value, _] = unit else {
+        return Err(AllocError);
+    };
+    if !begins(first, word) {
+        return Ok(());
+    }
+    let Ok(current) = small_number_at(AMPERES, value.text) else {
+        return Err(AllocError);
+    };
+    let entry = Amps {
+        line: first.place.line,
+        name: Name::new(alloc, name.text)?,
+        low: current,
+        high: current,
+    };
+    currents.add(name.text, entry)
+}
+
+/// What a unit says if it is `cell MACRO LOW HIGH` or `instance NAME LOW HIGH`, by its first word.
+fn take_range<'a>(
+    currents: &mut NamedEntries<'a, Amps>,
+    word: Sort,
+    alloc: Global,
+    unit: &[Word<'a>],
+) -> Result<(), AllocError>
+    requires { has_range word ≡ true }
+    ensures { OnOk result (Takes (HoldsLines SaysAmps word currents.old) (HoldsLines SaysAmps word currents.new)
+        (map token unit.now)) }
+{
+    let [first, name, low, high, _] = unit else {
+        return Err(AllocError);
+    };
+    if !begins(first, word) {
+        return Ok(());
+    }
+    let Ok(least) = small_number_at(AMPERES, low.text) else {
+        return Err(AllocError);
+    };
+    let Ok(greatest) = small_number_at(AMPERES, high.text) else {
+        return Err(AllocError);
+    };
+    if greatest < least {
+        return Err(AllocError);
+    }
+    let entry = Amps {
+        line: first.place.line,
+        name: Name::new(alloc, name.text)?,
+        low: least,
+        high: greatest,
+    };
+    currents.add(name.text, entry)
+}
+
+/// What a unit says if it is a line of a current with this first word.
+pub(crate) fn take_amps<'a>(
+    currents: &mut NamedEntries<'a, Amps>,
+    word: Sort,
+    alloc: Global,
+    unit: &[Word<'a>],
+) -> Result<(), AllocError>
+    requires { has_range word ≡ true }
+    ensures { OnOk result (Takes (HoldsLines SaysAmps word currents.old) (HoldsLines SaysAmps word currents.new)
+        (map token unit.now)) }
+{
+    match unit.len() {
+        4 => take_current(currents, word, alloc, unit),
+        5 => take_range(currents, word, alloc, unit),
+        _ => Ok(()),
     }
 }

@@ -1,19 +1,19 @@
 ghost use Rattle.std.specs.Prelude.{◌≡◌, List, IfOk};
-ghost use Rattle.bias_file.specs.Held.{HoldsLists, want_error, error_of};
+ghost use Rattle.bias_file.specs.Format.{ReadsBias};
 ghost use Rattle.bias_file.specs.Limits.{KeepsLimits};
-ghost use Rattle.bias_file.specs.Reading.{ReadsBias};
 ghost use Rattle.bias_file.specs.Record.{IsBias};
-ghost use Rattle.reading.specs.Words.{Token};
+ghost use Rattle.bias_file.specs.inside.Held.{HoldsLists};
+ghost use Rattle.reading.specs.Word.{Token};
 
-use crate::bias::Bias;
-use crate::error::{BiasError, BiasKind};
+use crate::error::BiasError;
 use crate::format::BiasFormat;
 use crate::held::{Held, Lists};
+use crate::record::Bias;
 use entry_list::Entries;
-use outside::Place;
-use reading::{Cause, Refusal, read_text};
+use number_place::values_fit_their_places;
+use reading::{ReadError, read_into};
 use std::alloc::Global;
-use text_lex::{Mode, one_split};
+use text_lex::Mode;
 
 /// Reads a bias file.
 ///
@@ -26,13 +26,12 @@ pub fn read_bias(alloc: Global, text: &[u8]) -> Result<Bias, BiasError>
     ensures reads { ReadsBias text.now result }
     ensures keeps { IfOk result KeepsLimits }
 {
-    one_split();
     let Ok(mut held) = Held::new(alloc) else {
-        return Err(want());
+        return Err(ReadError::want());
     };
-    match read_text(alloc, &BiasFormat, &mut held, text, Mode::Lines) {
-        Ok(_) => Ok(bias_of(held.lists)),
-        Err(refusal) => Err(error_of(refusal)),
+    match read_into(alloc, &BiasFormat, &mut held, text, Mode::Lines) {
+        Ok(()) => Ok(bias_of(held.lists)),
+        Err(error) => Err(error),
     }
 }
 
@@ -41,36 +40,12 @@ fn bias_of(lists: Lists<'_>) -> Bias
     ensures is { (units : List (List Token)) → HoldsLists units lists.entry → IsBias units result }
     ensures keeps { (units : List (List Token)) → HoldsLists units lists.entry → KeepsLimits result }
 {
+    values_fit_their_places();
     Bias {
-        supplies: Entries::new(lists.supplies.into_entries()),
-        drops: Entries::new(lists.drops.into_entries()),
+        supplies: lists.supplies.into_entries(),
+        drops: lists.drops.into_entries(),
         pads: Entries::new(lists.pads),
-        cells: Entries::new(lists.cells.into_entries()),
-        instances: Entries::new(lists.instances.into_entries()),
-    }
-}
-
-/// Want of memory, which has no place.
-fn want() -> BiasError
-    ensures { result ≡ want_error }
-{
-    BiasError {
-        place: Place { line: 1, word: 1 },
-        kind: BiasKind::Want,
-    }
-}
-
-/// The error of a refusal.
-fn error_of(refusal: Refusal<BiasKind>) -> BiasError
-    ensures { result ≡ error_of refusal }
-{
-    match refusal {
-        Refusal::Want => want(),
-        Refusal::At(place, Cause::Syntax) => BiasError {
-            place,
-            kind: BiasKind::Syntax,
-        },
-        Refusal::At(place, Cause::Fault(kind)) => BiasError { place, kind },
-        Refusal::At(_, Cause::Lex(_)) => want(),
+        cells: lists.cells.into_entries(),
+        instances: lists.instances.into_entries(),
     }
 }

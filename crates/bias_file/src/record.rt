@@ -49,7 +49,8 @@ pub struct PadAt {
     pub y: i64,
 }
 
-/// The line `cell MACRO I`, for each component of a macro that has no line of its own, or `instance NAME I`, for one component.
+/// The line `cell MACRO LOW HIGH`, for each component of a macro that has no line of its own, or `instance NAME LOW HIGH`, for one
+/// component. A line with one number gives both ends.
 #[derive(Debug, Drop)]
 pub struct Amps {
     /// The number of the line, from 1.
@@ -58,6 +59,6 @@ pub struct Amps {
     pub name: Name,
     /// The least current that it draws in fA, from 0 to 10^18.
     pub low: i64,
-    /// The greatest current that it draws in fA. A line with one number gives both.
+    /// The greatest current that it draws in fA, from `low` to 10^18.
     pub high: i64,
 }

@@ -1,7 +1,7 @@
 //! The lines of a bias file, as rules.
-ghost use Rattle.bias_file.specs.Sorts.{number_of};
-ghost use Rattle.bias_file.specs.Lines.{pattern};
-ghost use Rattle.reading.specs.Graph.{IsRule};
+ghost use Rattle.bias_file.specs.Sort.{number_of};
+ghost use Rattle.bias_file.specs.Rule.{pattern};
+ghost use Rattle.reading.specs.Rule.{IsRule};
 
 use crate::section::Section;
 use crate::sort::Sort;
@@ -21,10 +21,16 @@ const NUMBER: Rule<'static, Sort> = Rule::Other(&[
 /// A line ends where a comment begins, with its line feed, or with the text.
 const END: Rule<'static, Sort> = Rule::One(&[Sort::Comment, Sort::LineEnd, Sort::TextEnd]);
 
-/// What stands behind the first word of `supply NET V` and its like.
+/// What stands after the first word of `supply NET V` and its like.
 const NAME_AND_VALUE: Rule<'static, Sort> = Rule::Then(&NAME, &Rule::Then(&NUMBER, &END));
 
-/// What stands behind the first word of `pad NET LAYER x y`.
+/// What stands after the first word of `cell MACRO I`, `cell MACRO LOW HIGH` and their like.
+const NAME_AND_RANGE: Rule<'static, Sort> = Rule::Then(
+    &NAME,
+    &Rule::Then(&NUMBER, &Rule::Or(&END, &Rule::Then(&NUMBER, &END))),
+);
+
+/// What stands after the first word of `pad NET LAYER x y`.
 const NAMES_AND_PLACE: Rule<'static, Sort> = Rule::Then(
     &NAME,
     &Rule::Then(&NAME, &Rule::Then(&NUMBER, &Rule::Then(&NUMBER, &END))),
@@ -39,11 +45,11 @@ const DROP_LIMIT_LINE: Rule<'static, Sort> = Rule::Then(
 
 const PAD_LINE: Rule<'static, Sort> = Rule::Then(&Rule::One(&[Sort::Pad]), &NAMES_AND_PLACE);
 
-const CELL_LINE: Rule<'static, Sort> = Rule::Then(&Rule::One(&[Sort::Cell]), &NAME_AND_VALUE);
+const CELL_LINE: Rule<'static, Sort> = Rule::Then(&Rule::One(&[Sort::Cell]), &NAME_AND_RANGE);
 
 const INSTANCE_LINE: Rule<'static, Sort> = Rule::Then(
     &Rule::One(&[Sort::Instance]),
-    &NAME_AND_VALUE,
+    &NAME_AND_RANGE,
 );
 
 /// A line, or an empty one.
@@ -58,7 +64,7 @@ const LINE: Rule<'static, Sort> = Rule::Or(
     ),
 );
 
-/// Behind the word that begins a comment each word is passed over, and the end of the line ends it.
+/// After the word that begins a comment each word is passed over, and the end of the line ends it.
 const REMARK: Rule<'static, Sort> = Rule::Other(&[]);
 
 /// The units of a section.

@@ -1,9 +1,9 @@
 ghost use Rattle.std.specs.Prelude.{◌≡◌, map};
-ghost use Rattle.bias_file.specs.Sections.{section_number, all_sections, section_behind_word, section_behind, listed, few};
-ghost use Rattle.reading.specs.Words.{token};
+ghost use Rattle.bias_file.specs.Section.{section_number, all_sections, section_after_word, section_after, listed, few};
+ghost use Rattle.reading.specs.Word.{token};
 
 use crate::sort::{Sort, sort_of};
-use reading::{Numbered, Word};
+use reading::{Numbered, Word, last_word};
 
 /// Where the next unit stands.
 #[derive(Clone, Copy, Debug)]
@@ -12,7 +12,7 @@ pub(crate) enum Section {
     LineStart,
     /// In a comment, of which each word is a unit.
     Remark,
-    /// Behind the end of the text.
+    /// After the end of the text.
     Nothing,
 }
 
@@ -30,9 +30,9 @@ impl Numbered for Section {
     ghost few = { few };
 }
 
-/// The section behind a unit that ends with a word of this sort.
-fn section_behind_word(sort: Sort) -> Section
-    ensures { result ≡ section_behind_word sort }
+/// The section after a unit that ends with a word of this sort.
+fn section_after_word(sort: Sort) -> Section
+    ensures { result ≡ section_after_word sort }
 {
     match sort {
         Sort::LineEnd => Section::LineStart,
@@ -41,12 +41,12 @@ fn section_behind_word(sort: Sort) -> Section
     }
 }
 
-/// The section behind a unit.
-pub(crate) fn section_behind(unit: &[Word<'_>]) -> Section
-    ensures { result ≡ section_behind (map token unit.now) }
+/// The section after a unit.
+pub(crate) fn section_after(unit: &[Word<'_>]) -> Section
+    ensures { result ≡ section_after (map token unit.now) }
 {
-    match unit.last() {
-        Some(word) => section_behind_word(sort_of(word)),
+    match last_word(unit) {
+        Some(word) => section_after_word(sort_of(word)),
         None => Section::LineStart,
     }
 }

@@ -1,8 +1,8 @@
 ghost use Rattle.std.specs.Prelude.{◌≡◌};
-ghost use Rattle.bias_file.specs.Sorts.{number_of, all_sorts, sort_of_text, sort_of, begins_comment, listed, few};
-ghost use Rattle.reading.specs.Words.{token};
+ghost use Rattle.bias_file.specs.Sort.{number_of, all_sorts, sort_of_text, sort_of, begins_comment, listed, few};
+ghost use Rattle.reading.specs.Word.{token};
 
-use reading::{Form, Numbered, Word};
+use reading::{Form, Numbered, Word, keyword_or};
 
 /// What a word of a bias file is, wherever it stands.
 #[derive(Clone, Copy, Debug)]
@@ -45,23 +45,21 @@ impl Numbered for Sort {
 fn sort_of_text(text: &[u8]) -> Sort
     ensures { result ≡ sort_of_text text.now }
 {
-    if text == b"supply".as_slice() {
-        Sort::Supply
-    } else if text == b"droplimit".as_slice() {
-        Sort::DropLimit
-    } else if text == b"pad".as_slice() {
-        Sort::Pad
-    } else if text == b"cell".as_slice() {
-        Sort::Cell
-    } else if text == b"instance".as_slice() {
-        Sort::Instance
-    } else if text == b";".as_slice() || text == b"(".as_slice() || text == b")".as_slice() {
-        Sort::Mark
-    } else if begins_comment(text) {
+    let other = if begins_comment(text) {
         Sort::Comment
     } else {
         Sort::Other
-    }
+    };
+    keyword_or!(text;
+        b"supply" => Sort::Supply,
+        b"droplimit" => Sort::DropLimit,
+        b"pad" => Sort::Pad,
+        b"cell" => Sort::Cell,
+        b"instance" => Sort::Instance,
+        b";" => Sort::Mark,
+        b"(" => Sort::Mark,
+        b")" => Sort::Mark;
+        other)
 }
 
 /// Whether the word makes a comment.

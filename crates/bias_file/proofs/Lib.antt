@@ -1,0 +1,5 @@
+pub mod Numbers
+pub mod Law
+pub mod Taking
+pub mod Limits
+pub mod One

@@ -1,0 +1,189 @@
+-- One more line.
+use Rattle.std.proofs.Common.{◌≡◌, ◌↔◌, IsTrue, ℕ, ◌+◌, ◌<◌, ◌≤◌, ◌^◌, ◌==◌, Bool, true, false, ◌&&◌, List, [], ◌∷◌, ◌++◌, length, map, get_or, slice_get, Contains, ℤ, Result, Ok, Err, OnOk, Option, Some, None, refl, sym, ◌∙◌, ap, subst, arith, to_z, of_z}
+use Rattle.std.specs.Prelude.{unsigned_abs}
+use Rattle.std.specs.Int.{w64, w128}
+use Rattle.name_table.specs.Numbering.{TakesName}
+use Rattle.bias_file.specs.declared.error.BiasKind.TheVariants.{Twice}
+use Rattle.bias_file.specs.declared.sort.Sort.{Sort}
+use Rattle.bias_file.specs.declared.sort.Sort.TheVariants.{Cell, Instance}
+use Rattle.bias_file.specs.Sort.{sort_of, the, number_of, all_sorts, listed}
+use Rattle.bias_file.specs.Rule.{has_value, has_range, has_place, lines, name_on, is_line}
+use Rattle.bias_file.specs.declared.record.Supply.{Supply}
+use Rattle.bias_file.specs.declared.record.DropLimit.{DropLimit}
+use Rattle.bias_file.specs.declared.record.PadAt.{PadAt}
+use Rattle.bias_file.specs.declared.record.Amps.{Amps}
+use Rattle.bias_file.specs.Section.{section_of, section_after}
+use Rattle.bias_file.specs.Fault.{names_of}
+use Rattle.std.proofs.lemmas.Int.{to_z-of_z, fits_signed_from_abs}
+use Rattle.bias_file.specs.Format.{format}
+use Rattle.bias_file.specs.inside.Held.{HoldsLines, Takes}
+use Rattle.entry_list.specs.Named.{NamedList}
+use Rattle.std.specs.declared.alloc.AllocError.{AllocError}
+use Rattle.entry_list.specs.Laws.{named-added, named-kept, turn-added}
+use Rattle.reading.specs.Grammar.{NoneShows}
+use Rattle.reading.specs.Reading.{IsFine}
+use Rattle.reading.specs.declared.word.Word.{Word}
+use Rattle.reading.specs.declared.word.Form.TheVariants.{Bare}
+use Rattle.reading.specs.Word.{Token, token}
+
+pub stands_by : (word this : Sort) (units : List (List Token)) (names : List (List ℕ)) (name : List ℕ) (there : Bool) → word ≡ this → has_value this ≡ true →
+    names ≡ names_of this units → IsTrue there ↔ Contains names name → IsTrue there ↔ ((has_value word ≡ true) × Contains (names_of word units) name)
+stands_by word this units names name there e value same tells = (
+  (λ h. (ap has_value e ∙ value, subst (λ z. Contains z name) (same ∙ ap (λ z. names_of z units) (sym e)) (tells.0 h))),
+  (λ h. tells.1 (subst (λ z. Contains z name) (ap (λ z. names_of z units) e ∙ sym same) h.1)),
+)
+
+-- ## units by the number of their words
+
+abbrev pub no_word : Word
+no_word = record { text = record { ref_ptr = (0, 0); now = [] }; place = record { line = 0; word = 0 }; form = Bare }
+
+zero_words : (xs : List Word) → length xs < 1 → xs ≡ []
+zero_words [] h = refl
+zero_words (x ∷ xs) h = absurd (omega arith)
+
+one_word : (xs : List Word) → 1 ≤ length xs → length xs < 2 → xs ≡ get_or xs 0 no_word ∷ []
+one_word [] h k = absurd (omega arith)
+one_word (x ∷ xs) h k = ap (λ z. x ∷ z) (zero_words xs (omega arith))
+
+pub two_words : (xs : List Word) → 2 ≤ length xs → length xs < 3 → xs ≡ get_or xs 0 no_word ∷ get_or xs 1 no_word ∷ []
+two_words [] h k = absurd (omega arith)
+two_words (x ∷ xs) h k = ap (λ z. x ∷ z) (one_word xs (omega arith) (omega arith))
+
+three_words : (xs : List Word) → 3 ≤ length xs → length xs < 4 → xs ≡ get_or xs 0 no_word ∷ get_or xs 1 no_word ∷ get_or xs 2 no_word ∷ []
+three_words [] h k = absurd (omega arith)
+three_words (x ∷ xs) h k = ap (λ z. x ∷ z) (two_words xs (omega arith) (omega arith))
+
+pub four_words : (xs : List Word) → 4 ≤ length xs → length xs < 5 → xs ≡ get_or xs 0 no_word ∷ get_or xs 1 no_word ∷ get_or xs 2 no_word ∷ get_or xs 3 no_word ∷ []
+four_words [] h k = absurd (omega arith)
+four_words (x ∷ xs) h k = ap (λ z. x ∷ z) (three_words xs (omega arith) (omega arith))
+
+pub five_words : (xs : List Word) → 5 ≤ length xs → length xs < 6 →
+    xs ≡ get_or xs 0 no_word ∷ get_or xs 1 no_word ∷ get_or xs 2 no_word ∷ get_or xs 3 no_word ∷ get_or xs 4 no_word ∷ []
+five_words [] h k = absurd (omega arith)
+five_words (x ∷ xs) h k = ap (λ z. x ∷ z) (four_words xs (omega arith) (omega arith))
+
+pub six_words : (xs : List Word) → 6 ≤ length xs → length xs < 7 →
+    xs ≡ get_or xs 0 no_word ∷ get_or xs 1 no_word ∷ get_or xs 2 no_word ∷ get_or xs 3 no_word ∷ get_or xs 4 no_word ∷ get_or xs 5 no_word ∷ []
+six_words [] h k = absurd (omega arith)
+six_words (x ∷ xs) h k = ap (λ z. x ∷ z) (five_words xs (omega arith) (omega arith))
+
+-- ## one more line
+
+fresh : (word : Sort) (units : List (List Token)) (first name : Token) (words : List Token) → sort_of first ≡ word → has_value word ≡ true →
+    NoneShows format units [] (first ∷ name ∷ words) → Contains (names_of word units) name.text → ⊥
+fresh word units first name words e value fine there =
+    fine.1.0 (record { at = 1; kind = Twice }) (refl, (refl, ap has_value e ∙ value, subst (λ z. Contains (names_of z units) name.text) (sym e) there))
+
+-- A line that says an entry is taken with it.
+pub line_taken : {E : Type 0} (says : List Token → E → Type 0) (word : Sort) (old new : NamedList E) (first name : Token) (words : List Token) (entry : E) (r : Result (Unit {0}) AllocError) →
+    sort_of first ≡ word → has_value word ≡ true → is_line word (first ∷ name ∷ words) ≡ true → says (first ∷ name ∷ words) entry →
+    OnOk r (TakesName old.names new.names name.text) → OnOk r (new.entries ≡ old.entries ++ entry ∷ []) →
+    OnOk r (Takes (HoldsLines says word old) (HoldsLines says word new) (first ∷ name ∷ words))
+line_taken says word old new first name words entry (Err x) e value is s taken entries = tt
+line_taken says word old new first name words entry (Ok x) e value is s taken entries = λ units fine h.
+    named-added says name_on (is_line word) units (first ∷ name ∷ words) old new entry is h (fresh word units first name words e value fine) s taken entries
+
+-- A unit that is no line with this first word leaves what is held.
+pub line_kept : {E : Type 0} (says : List Token → E → Type 0) (word : Sort) (named : NamedList E) (unit : List Token) → is_line word unit ≡ false →
+    Takes (HoldsLines says word named) (HoldsLines says word named) unit
+line_kept says word named unit is = λ units fine h. named-kept says name_on (is_line word) units unit named is h
+
+and_false : (b : Bool) → (b && false) ≡ false
+and_false true = refl
+and_false false = refl
+
+pub not_begun : (b c : Bool) → c ≡ false → (b && c) ≡ false
+not_begun b c e = ap (λ z. b && z) e ∙ and_false b
+
+pub has_both : (b c : Bool) → b ≡ true → c ≡ true → (b && c) ≡ true
+has_both true c h k = k
+has_both false c h k = absurd (let t : false ≡ true = h in cc)
+
+pub range_value : (word : Sort) → has_range word ≡ true → has_value word ≡ true
+range_value Cell h = refl
+range_value Instance h = refl
+range_value word h = absurd (let t : false ≡ true = h in cc)
+
+range_no_place : (word : Sort) → has_range word ≡ true → has_place word ≡ false
+range_no_place Cell h = refl
+range_no_place Instance h = refl
+range_no_place word h = absurd (let t : false ≡ true = h in cc)
+
+-- A current's line has four words or five.
+pub no_current : (word : Sort) → has_range word ≡ true → (xs : List Token) → (length xs ≡ 4 → ⊥) → (length xs ≡ 5 → ⊥) → is_line word xs ≡ false
+no_current word range (a ∷ b ∷ c ∷ d ∷ []) h k = absurd (h refl)
+no_current word range (a ∷ b ∷ c ∷ d ∷ e ∷ []) h k = absurd (k refl)
+no_current word range (a ∷ b ∷ c ∷ d ∷ e ∷ f ∷ []) h k = ap (λ z. z && the word (sort_of a)) (range_no_place word range)
+no_current word range xs h k = refl
+
+number_same : (a b : Sort) → (number_of a == number_of b) ≡ true → a ≡ b
+number_same a b h =
+    let e : number_of a ≡ number_of b = grind (arith, h) in
+    let t : slice_get all_sorts (number_of a) ≡ Some b = ap (λ z. slice_get all_sorts z) e ∙ listed b in
+    let s : Some a ≡ Some b = sym (listed a) ∙ t in
+    cc
+
+pub begun_with : (word sort : Sort) → the word sort ≡ true → sort ≡ word
+begun_with word sort h = number_same sort word h
+
+-- ## numbers as the machine keeps them
+
+pub kept_128 : (v : ℤ) → unsigned_abs v ≤ 10 ^ 25 → to_z w128 (of_z w128 v) ≡ v
+kept_128 v h = to_z-of_z w128 v (fits_signed_from_abs w128 v (omega arith))
+
+pub kept_64 : (v : ℤ) → unsigned_abs v ≤ 10 ^ 18 → to_z w64 (of_z w64 v) ≡ v
+kept_64 v h = to_z-of_z w64 v (fits_signed_from_abs w64 v (omega arith))
+
+-- ## entries
+
+abbrev the_supply : Supply → Supply
+the_supply a = a
+
+abbrev the_limit : DropLimit → DropLimit
+the_limit a = a
+
+abbrev the_amps : Amps → Amps
+the_amps a = a
+
+abbrev the_pad : PadAt → PadAt
+the_pad a = a
+
+pub supply_is : (line : ℕ) (a b : List ℕ) (v w : ℤ) → a ≡ b → v ≡ w → the_supply (record { line = line; net = a; volts = v }) ≡ record { line = line; net = b; volts = w }
+supply_is line a b v w e f = ap (λ z. the_supply (record { line = line; net = z; volts = v })) e ∙ ap (λ z. the_supply (record { line = line; net = b; volts = z })) f
+
+pub limit_is : (line : ℕ) (a b : List ℕ) (v w : ℤ) → a ≡ b → v ≡ w → the_limit (record { line = line; net = a; volts = v }) ≡ record { line = line; net = b; volts = w }
+limit_is line a b v w e f = ap (λ z. the_limit (record { line = line; net = z; volts = v })) e ∙ ap (λ z. the_limit (record { line = line; net = b; volts = z })) f
+
+pub amps_is : (line : ℕ) (a b : List ℕ) (v w x y : ℤ) → a ≡ b → v ≡ w → x ≡ y → the_amps (record { line = line; name = a; low = v; high = x }) ≡ record { line = line; name = b; low = w; high = y }
+amps_is line a b v w x y e f g =
+    ap (λ z. the_amps (record { line = line; name = z; low = v; high = x })) e ∙ ap (λ z. the_amps (record { line = line; name = b; low = z; high = x })) f
+    ∙ ap (λ z. the_amps (record { line = line; name = b; low = w; high = z })) g
+
+pub pad_is : (line : ℕ) (a b m n : List ℕ) (v w x y : ℤ) → a ≡ b → m ≡ n → v ≡ w → x ≡ y → the_pad (record { line = line; net = a; layer = m; x = v; y = x }) ≡ record { line = line; net = b; layer = n; x = w; y = y }
+pad_is line a b m n v w x y e f g h =
+    ap (λ z. the_pad (record { line = line; net = z; layer = m; x = v; y = x })) e ∙ ap (λ z. the_pad (record { line = line; net = b; layer = z; x = v; y = x })) f
+    ∙ ap (λ z. the_pad (record { line = line; net = b; layer = n; x = z; y = x })) g ∙ ap (λ z. the_pad (record { line = line; net = b; layer = n; x = w; y = z })) h
+
+-- ## sections
+
+pub section_more : (units : List (List Token)) (unit : List Token) → section_of (units ++ unit ∷ []) ≡ section_after unit
+section_more [] unit = refl
+section_more (u ∷ []) unit = refl
+section_more (u ∷ v ∷ units) unit = section_more (v ∷ units) unit
+
+-- ## units that show no fault
+
+pub short_fine : (units : List (List Token)) (part : List Token) → length part < 2 → IsFine format units part
+short_fine units [] h = λ a k. k
+short_fine units (x ∷ []) h = λ a k. k
+short_fine units (x ∷ y ∷ part) h = absurd (omega arith)
+
+pub long_fine : (units : List (List Token)) (part : List Token) → 6 ≤ length part → IsFine format units part
+long_fine units (a ∷ b ∷ c ∷ d ∷ e ∷ f ∷ part) h = λ x k. k
+long_fine units [] h = absurd (omega arith)
+long_fine units (a ∷ []) h = absurd (omega arith)
+long_fine units (a ∷ b ∷ []) h = absurd (omega arith)
+long_fine units (a ∷ b ∷ c ∷ []) h = absurd (omega arith)
+long_fine units (a ∷ b ∷ c ∷ d ∷ []) h = absurd (omega arith)
+long_fine units (a ∷ b ∷ c ∷ d ∷ e ∷ []) h = absurd (omega arith)

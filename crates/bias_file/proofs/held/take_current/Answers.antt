@@ -1,0 +1,36 @@
+use Rattle.std.proofs.Common.{◌≡◌, ℤ, ◌≤◌, ◌≤ℤ◌, ◌^◌, [], ◌∷◌, Ok, OnOk, map, get_or, true, refl, sym, ◌∙◌, ap, subst, arith, length, List}
+use Rattle.std.specs.Prelude.{unsigned_abs}
+use Rattle.std.proofs.lemmas.Int.{ints}
+use Rattle.bias_file.specs.declared.sort.Sort.{Sort}
+use Rattle.bias_file.specs.declared.sort.Sort.TheVariants.{Supply, DropLimit, Pad}
+use Rattle.bias_file.specs.Sort.{the, sort_of}
+use Rattle.bias_file.specs.Rule.{has_value, has_range, is_line, lines}
+use Rattle.bias_file.specs.Number.{volts, drop_volts, amperes, micrometres}
+use Rattle.bias_file.specs.Record.{SaysSupply, SaysDropLimit, SaysAmps, SaysPad}
+use Rattle.bias_file.specs.inside.Held.{HoldsLines, Takes}
+use Rattle.bias_file.proofs.Taking.{no_word, four_words, five_words, six_words, line_taken, line_kept, has_both, not_begun, no_current, range_value, begun_with, kept_128, kept_64, supply_is, limit_is, amps_is, pad_is}
+use Rattle.entry_list.specs.Laws.{turn-added}
+use Rattle.entry_list.specs.InTurn.{InTurn}
+use Rattle.number_place.specs.Place.{IsNumberAt}
+use Rattle.reading.specs.Word.{Token, token}
+use Rattle.bias_file.proofs.held.take_current.Goals as goal
+
+pub returns-then-not-begins : goal.returns-then-not-begins
+returns-then-not-begins c =
+    let xs = c.args.unit.now in
+    subst (λ z. Takes (HoldsLines SaysAmps c.args.word c.args.currents.now) (HoldsLines SaysAmps c.args.word c.args.currents.now) (map token z))
+    (sym (four_words xs c.in-len4.len_at_least c.in-len4.len_below))
+    (line_kept SaysAmps c.args.word c.args.currents.now _ (not_begun (has_value c.args.word) _ (sym c.begins.ensures ∙ c.if-not-begins.true)))
+
+pub returns : goal.returns
+returns c =
+    let xs = c.args.unit.now in
+    let begun : the c.args.word (sort_of (token (get_or xs 0 no_word))) ≡ true = sym c.begins.ensures ∙ c.if-not-begins.false in
+    let is = subst (λ z. IsNumberAt amperes (get_or xs 2 no_word).text.now z) c.in-Ok.is c.small_number_at.ensures.answer in
+    let value = range_value c.args.word c.requires in
+    let kept = kept_64 c.in-Ok.current is.1.2.within in
+    subst (λ z. OnOk c.add.result (Takes (HoldsLines SaysAmps c.args.word c.args.currents.now) (HoldsLines SaysAmps c.args.word c.add.new.self) (map token z)))
+    (sym (four_words xs c.in-len4.len_at_least c.in-len4.len_below))
+    (line_taken SaysAmps c.args.word c.args.currents.now c.add.new.self (token (get_or xs 0 no_word)) (token (get_or xs 1 no_word))
+    (token (get_or xs 2 no_word) ∷ token (get_or xs 3 no_word) ∷ []) _ c.add.result (begun_with c.args.word _ begun) value (has_both _ _ value begun)
+    (c.in-Ok.current, is, amps_is _ _ _ _ _ _ _ c.in_ok-new.ensures kept kept) c.add.ensures.names c.add.ensures.entries)

@@ -1,0 +1,29 @@
+use Rattle.std.proofs.Common.{◌≡◌, ℤ, ◌≤◌, ◌≤ℤ◌, ◌^◌, [], ◌∷◌, ◌++◌, Ok, OnOk, map, get_or, true, refl, sym, ◌∙◌, ap, subst, arith, length, List}
+use Rattle.std.specs.Prelude.{unsigned_abs}
+use Rattle.std.proofs.lemmas.Int.{ints}
+use Rattle.bias_file.specs.declared.sort.Sort.{Sort}
+use Rattle.bias_file.specs.declared.sort.Sort.TheVariants.{Supply, DropLimit, Pad}
+use Rattle.bias_file.specs.Sort.{the, sort_of}
+use Rattle.bias_file.specs.Rule.{has_value, has_range, is_line, lines}
+use Rattle.bias_file.specs.Number.{volts, drop_volts, amperes, micrometres}
+use Rattle.bias_file.specs.Record.{SaysSupply, SaysDropLimit, SaysAmps, SaysPad}
+use Rattle.bias_file.specs.inside.Held.{HoldsLines, Takes}
+use Rattle.bias_file.proofs.Taking.{no_word, four_words, five_words, six_words, line_taken, line_kept, has_both, not_begun, no_current, range_value, begun_with, kept_128, kept_64, supply_is, limit_is, amps_is, pad_is}
+use Rattle.entry_list.specs.Laws.{turn-added}
+use Rattle.entry_list.specs.InTurn.{InTurn}
+use Rattle.number_place.specs.Place.{IsNumberAt}
+use Rattle.reading.specs.Word.{Token, token}
+use Rattle.bias_file.proofs.held.take_pad.Goals as goal
+
+pub returns : goal.returns
+returns c = λ units fine h.
+    let xs = c.args.unit.now in
+    let first : sort_of (token (get_or xs 0 no_word)) ≡ Pad = sym c.sort_of.ensures ∙ c.in-Pad.is in
+    let is_x = subst (λ z. IsNumberAt micrometres (get_or xs 3 no_word).text.now z) c.in-Ok.is c.small_number_at.ensures.answer in
+    let is_y = subst (λ z. IsNumberAt micrometres (get_or xs 4 no_word).text.now z) c.in-Ok-small_number_at.is c.small_number_at-2.ensures.answer in
+    let near_x : unsigned_abs c.in-Ok.x ≤ 10 ^ 11 = is_x.1.2.within in
+    let near_y : unsigned_abs c.in-Ok-small_number_at.y ≤ 10 ^ 11 = is_y.1.2.within in
+    subst (λ z. InTurn SaysPad (lines Pad (units ++ map token z ∷ [])) c.push.new.self.items) (sym (six_words xs c.in-len6.len_at_least c.in-len6.len_below))
+    (turn-added SaysPad (is_line Pad) units _ c.args.pads.now.items c.push.new.self.items _ (ap (the Pad) first) h
+    (c.in-Ok.x, c.in-Ok-small_number_at.y, is_x, is_y, pad_is _ _ _ _ _ _ _ _ _ c.in_ok-new.ensures c.in_ok-new-2.ensures (kept_64 c.in-Ok.x (omega arith)) (kept_64 c.in-Ok-small_number_at.y (omega arith)))
+    c.in_ok-push.ensures.items)

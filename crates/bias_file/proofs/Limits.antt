@@ -1,5 +1,5 @@
 -- What a record keeps, by what its lines say.
-use Rattle.std.proofs.Common.{◌≡◌, ℕ, ◌^◌, ◌≤◌, ℤ, pos, negsuc, ◌≤ℤ◌, List, [], ◌∷◌, map, All, Ok, refl, sym, ◌∙◌, ap, subst, arith}
+use Rattle.std.proofs.Common.{◌≡◌, ℕ, ◌^◌, ◌≤◌, ℤ, pos, negsuc, ◌≤ℤ◌, List, [], ◌∷◌, map, All, Ok, sym, ap, subst, arith}
 use Rattle.std.specs.Prelude.{unsigned_abs}
 use Rattle.std.proofs.lemmas.Int.{ints}
 use Rattle.name_table.specs.Numbering.{AreDistinct}
@@ -14,7 +14,6 @@ use Rattle.bias_file.specs.Number.{volts, drop_volts, amperes, micrometres}
 use Rattle.bias_file.specs.Limits.{KeepsLimits, SupplyKeeps, DropLimitKeeps, PadKeeps, AmpsKeep}
 use Rattle.bias_file.specs.Record.{SaysSupply, SaysDropLimit, SaysAmps, SaysPad}
 use Rattle.bias_file.specs.inside.Held.{HoldsLists}
-use Rattle.entry_list.specs.Named.{NamedList}
 use Rattle.entry_list.specs.Laws.{in-turn-all, names-differ}
 use Rattle.number_place.specs.declared.place.NumberPlace.{NumberPlace}
 use Rattle.number_place.specs.Place.{IsNumberAt, HasSign}

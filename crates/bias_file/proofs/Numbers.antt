@@ -1,7 +1,6 @@
 -- Numbers that are refused, and ranges that fall.
-use Rattle.std.proofs.Common.{◌≡◌, ◌↔◌, IsTrue, Bool, true, false, List, ℕ, ℤ, ◌<ℤ◌, ◌≤ℤ◌, Result, Ok, Err, Option, Some, None, ◌⊎◌, inl, inr, refl, sym, ◌∙◌, ap, subst}
+use Rattle.std.proofs.Common.{◌≡◌, ◌↔◌, IsTrue, Bool, List, ℕ, ℤ, ◌<ℤ◌, Result, Ok, Err, inl, inr, sym, ◌∙◌, ap, subst}
 use Rattle.bias_file.specs.declared.error.BiasKind.{BiasKind}
-use Rattle.bias_file.specs.declared.error.BiasKind.TheVariants.{Falling}
 use Rattle.bias_file.specs.declared.sort.Sort.{Sort}
 use Rattle.bias_file.specs.declared.sort.Sort.TheVariants.{Supply, DropLimit, Pad, Cell, Instance}
 use Rattle.bias_file.specs.Fault.{refused_kind, NumberFault, ValueFault, Falls, RangeFault, FourthFault, FifthFault}

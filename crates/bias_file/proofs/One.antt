@@ -1,5 +1,5 @@
 -- The lines of a bias file say one record.
-use Rattle.std.proofs.Common.{◌≡◌, ℤ, List, [], ◌∷◌, Ok, Result, refl, sym, ◌∙◌, ap}
+use Rattle.std.proofs.Common.{◌≡◌, ℤ, List, [], ◌∷◌, Ok, Result, sym, ◌∙◌, ap}
 use Rattle.bias_file.specs.declared.record.Bias.{Bias}
 use Rattle.bias_file.specs.declared.record.Supply.{Supply}
 use Rattle.bias_file.specs.declared.record.DropLimit.{DropLimit}

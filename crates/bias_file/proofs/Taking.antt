@@ -1,5 +1,5 @@
 -- One more line.
-use Rattle.std.proofs.Common.{◌≡◌, ◌↔◌, IsTrue, ℕ, ◌+◌, ◌<◌, ◌≤◌, ◌^◌, ◌==◌, Bool, true, false, ◌&&◌, List, [], ◌∷◌, ◌++◌, length, map, get_or, slice_get, Contains, ℤ, Result, Ok, Err, OnOk, Option, Some, None, refl, sym, ◌∙◌, ap, subst, arith, to_z, of_z}
+use Rattle.std.proofs.Common.{◌≡◌, ◌↔◌, IsTrue, ℕ, ◌<◌, ◌≤◌, ◌^◌, ◌==◌, Bool, true, false, ◌&&◌, List, [], ◌∷◌, ◌++◌, length, get_or, slice_get, Contains, ℤ, Result, Ok, Err, OnOk, Some, refl, sym, ◌∙◌, ap, subst, arith, to_z, of_z}
 use Rattle.std.specs.Prelude.{unsigned_abs}
 use Rattle.std.specs.Int.{w64, w128}
 use Rattle.name_table.specs.Numbering.{TakesName}
@@ -7,7 +7,7 @@ use Rattle.bias_file.specs.declared.error.BiasKind.TheVariants.{Twice}
 use Rattle.bias_file.specs.declared.sort.Sort.{Sort}
 use Rattle.bias_file.specs.declared.sort.Sort.TheVariants.{Cell, Instance}
 use Rattle.bias_file.specs.Sort.{sort_of, the, number_of, all_sorts, listed}
-use Rattle.bias_file.specs.Rule.{has_value, has_range, has_place, lines, name_on, is_line}
+use Rattle.bias_file.specs.Rule.{has_value, has_range, has_place, name_on, is_line}
 use Rattle.bias_file.specs.declared.record.Supply.{Supply}
 use Rattle.bias_file.specs.declared.record.DropLimit.{DropLimit}
 use Rattle.bias_file.specs.declared.record.PadAt.{PadAt}
@@ -19,12 +19,12 @@ use Rattle.bias_file.specs.Format.{format}
 use Rattle.bias_file.specs.inside.Held.{HoldsLines, Takes}
 use Rattle.entry_list.specs.Named.{NamedList}
 use Rattle.std.specs.declared.alloc.AllocError.{AllocError}
-use Rattle.entry_list.specs.Laws.{named-added, named-kept, turn-added}
+use Rattle.entry_list.specs.Laws.{named-added, named-kept}
 use Rattle.reading.specs.Grammar.{NoneShows}
 use Rattle.reading.specs.Reading.{IsFine}
 use Rattle.reading.specs.declared.word.Word.{Word}
 use Rattle.reading.specs.declared.word.Form.TheVariants.{Bare}
-use Rattle.reading.specs.Word.{Token, token}
+use Rattle.reading.specs.Word.{Token}
 
 pub stands_by : (word this : Sort) (units : List (List Token)) (names : List (List ℕ)) (name : List ℕ) (there : Bool) → word ≡ this → has_value this ≡ true →
     names ≡ names_of this units → IsTrue there ↔ Contains names name → IsTrue there ↔ ((has_value word ≡ true) × Contains (names_of word units) name)

@@ -1,5 +1,5 @@
 -- The faults of a bias file: a number that is refused, a range that falls, a name that stands again.
-use Rattle.std.specs.Prelude.{◌≡◌, ◌⊎◌, ℕ, Bool, true, false, ℤ, ◌<ℤ◌, List, [], ◌∷◌, map, Contains, Ok, Err, Option, Some, None}
+use Rattle.std.specs.Prelude.{◌≡◌, ◌⊎◌, ℕ, true, ℤ, ◌<ℤ◌, List, [], ◌∷◌, map, Contains, Ok, Err}
 use Rattle.bias_file.specs.declared.error.BiasKind.{BiasKind}
 use Rattle.bias_file.specs.declared.error.BiasKind.TheVariants as kinds
 use Rattle.bias_file.specs.declared.sort.Sort.{Sort}
@@ -41,7 +41,8 @@ RangeFault low high kind =
     (is_number (sort_of high) ≡ true)
     × (NumberFault amperes high.text kind ⊎ ((kind ≡ kinds.Falling) × Falls low.text high.text))
 
--- Why the fourth word of a line with this first word is refused: the second number of a range, or the x of a pad's place.
+-- Why the fourth word of a line with this first word is refused: the second number of a range, or the x of a pad's
+-- place.
 abbrev pub FourthFault : Sort → Token → Token → BiasKind → Type 0
 FourthFault Cell third fourth = RangeFault third fourth
 FourthFault Instance third fourth = RangeFault third fourth
@@ -65,6 +66,7 @@ NameFault units word name kind = (kind ≡ kinds.Twice) × (has_value word ≡ t
 abbrev pub fault : List (List Token) → List Token → Found BiasKind → Type 0
 fault units (first ∷ name ∷ []) found = (found.at ≡ 1) × NameFault units (sort_of first) name.text found.kind
 fault units (first ∷ name ∷ value ∷ []) found = (found.at ≡ 2) × ValueFault (sort_of first) value.text found.kind
-fault units (first ∷ name ∷ third ∷ fourth ∷ []) found = (found.at ≡ 3) × FourthFault (sort_of first) third fourth found.kind
+fault units (first ∷ name ∷ third ∷ fourth ∷ []) found =
+    (found.at ≡ 3) × FourthFault (sort_of first) third fourth found.kind
 fault units (first ∷ net ∷ layer ∷ x ∷ y ∷ []) found = (found.at ≡ 4) × FifthFault (sort_of first) y.text found.kind
 fault units _ found = ⊥

@@ -28,6 +28,7 @@ format = record {
 abbrev pub kinds : Kinds BiasKind
 kinds = record { syntax = Syntax; want = Want; word = λ kind. Syntax }
 
--- The record of the text's one list of units, which are lines and the words of comments, or its one refusal with place and kind.
+-- The record of the text's one list of units, which are lines and the words of comments, or its one refusal with place
+-- and kind.
 abbrev pub ReadsBias : List ℕ → Result Bias (ReadError BiasKind) → Type 0
 ReadsBias bytes result = ReadsRecord kinds Lines bytes format IsBias result

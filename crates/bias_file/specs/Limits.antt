@@ -1,6 +1,7 @@
--- What every record of a bias file keeps: names stand once, and numbers are within their limits and have the sign that is asked of them.
+-- What every record of a bias file keeps: names stand once, and numbers are within their limits and have the sign that
+-- is asked of them.
 use Rattle.name_table.specs.Numbering.{AreDistinct}
-use Rattle.std.specs.Prelude.{ ◌^◌, ◌≤◌, pos, ◌≤ℤ◌, unsigned_abs, map, All}
+use Rattle.std.specs.Prelude.{◌^◌, ◌≤◌, pos, ◌≤ℤ◌, unsigned_abs, map, All}
 use Rattle.bias_file.specs.declared.record.Bias.{Bias}
 use Rattle.bias_file.specs.declared.record.Supply.{Supply}
 use Rattle.bias_file.specs.declared.record.DropLimit.{DropLimit}

@@ -1,5 +1,5 @@
 -- What the lines of a bias file say.
-use Rattle.std.specs.Prelude.{◌≡◌, ℕ, ℤ, ◌≤ℤ◌, List, [], ◌∷◌, Ok}
+use Rattle.std.specs.Prelude.{◌≡◌, ℤ, ◌≤ℤ◌, List, [], ◌∷◌, Ok}
 use Rattle.bias_file.specs.declared.record.Bias.{Bias}
 use Rattle.bias_file.specs.declared.record.Supply.{Supply}
 use Rattle.bias_file.specs.declared.record.DropLimit.{DropLimit}
@@ -15,13 +15,15 @@ use Rattle.reading.specs.Word.{Token}
 -- `supply NET V`: the potential of the net's pads.
 abbrev pub SaysSupply : List Token → Supply → Type 0
 SaysSupply (first ∷ net ∷ value ∷ stop ∷ []) supply =
-    (v : ℤ) × IsNumberAt volts value.text (Ok v) × (supply ≡ record { line = first.place.line; net = net.text; volts = v })
+    (v : ℤ) × IsNumberAt volts value.text (Ok v)
+    × (supply ≡ record { line = first.place.line; net = net.text; volts = v })
 SaysSupply _ supply = ⊥
 
 -- `droplimit NET V`: how far a node of the net may be from its supply.
 abbrev pub SaysDropLimit : List Token → DropLimit → Type 0
 SaysDropLimit (first ∷ net ∷ value ∷ stop ∷ []) limit =
-    (v : ℤ) × IsNumberAt drop_volts value.text (Ok v) × (limit ≡ record { line = first.place.line; net = net.text; volts = v })
+    (v : ℤ) × IsNumberAt drop_volts value.text (Ok v)
+    × (limit ≡ record { line = first.place.line; net = net.text; volts = v })
 SaysDropLimit _ limit = ⊥
 
 -- `cell MACRO LOW HIGH`: the range of the current that each component of the macro draws that has no line of its own;

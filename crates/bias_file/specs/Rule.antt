@@ -15,8 +15,8 @@ is_name LineEnd = false
 is_name TextEnd = false
 is_name _ = true
 
--- In the place of a number stands any word but `;`, `(`, `)`, the word that begins a comment, and the end of the line or the text;
--- whether it is a number is asked of the faults.
+-- In the place of a number stands any word but `;`, `(`, `)`, the word that begins a comment, and the end of the line
+-- or the text; whether it is a number is asked of the faults.
 abbrev pub is_number : Sort → Bool
 is_number Mark = false
 is_number Comment = false
@@ -57,7 +57,8 @@ abbrev pub empty_line : Pattern Sort
 empty_line = end
 
 abbrev pub line : Pattern Sort
-line = Or (value_line Supply) (Or (value_line DropLimit) (Or pad_line (Or (current_line Cell) (Or (current_line Instance) empty_line))))
+line = Or (value_line Supply) (Or (value_line DropLimit)
+    (Or pad_line (Or (current_line Cell) (Or (current_line Instance) empty_line))))
 
 -- After the word that begins a comment each word is passed over, and the end of the line ends it.
 abbrev pub is_any : Sort → Bool

@@ -1,4 +1,5 @@
--- What may follow: a line, the words of a comment, nothing after the end of the text. The last word of the last unit decides.
+-- What may follow: a line, the words of a comment, nothing after the end of the text. The last word of the last unit
+-- decides.
 use Rattle.std.specs.Prelude.{◌≡◌, ℕ, ◌≤◌, List, [], ◌∷◌, length, slice_get, Option, Some, None}
 use Rattle.std.proofs.Common.{refl, arith}
 use Rattle.bias_file.specs.declared.section.Section.{Section}

@@ -1,4 +1,5 @@
--- The sorts of the words of a bias file: the first words of lines, the words that are never a number, comments, others, and the ends.
+-- The sorts of the words of a bias file: the first words of lines, the words that are never a number, comments, others,
+-- and the ends.
 use Rattle.std.specs.Prelude.{◌≡◌, ℕ, ◌≤◌, ◌==◌, Bool, false, List, [], ◌∷◌, length, slice_get, Some, codes, if◌then◌else◌}
 use Rattle.std.proofs.Common.{refl, arith}
 use Rattle.bias_file.specs.declared.sort.Sort.{Sort}

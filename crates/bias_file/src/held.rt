@@ -1,7 +1,7 @@
 //! What has been read of a bias file.
 //!
-//! A number of a whole unit has shown no fault, so that it can be read. Where it could not, the answer is want of memory, which no
-//! clause ties to anything; it never comes.
+//! A number of a whole unit has shown no fault, so that it can be read. Where it could not, the answer is want of
+//! memory, which no clause ties to anything; it never comes.
 ghost use Rattle.std.specs.Prelude.{[], IfOk, OnOk, ◌≡◌, true, map};
 ghost use Rattle.entry_list.specs.InTurn.{InTurn};
 ghost use Rattle.reading.specs.Word.{token};
@@ -118,7 +118,11 @@ pub(crate) fn take_drop<'a>(
 }
 
 /// What a unit says if it is `pad NET LAYER x y`.
-pub(crate) fn take_pad(pads: &mut Vec<PadAt>, alloc: Global, unit: &[Word<'_>]) -> Result<(), AllocError>
+pub(crate) fn take_pad(
+    pads: &mut Vec<PadAt>,
+    alloc: Global,
+    unit: &[Word<'_>],
+) -> Result<(), AllocError>
     ensures { OnOk result (Takes (λ units. InTurn SaysPad (lines sorts.Pad units) pads.old.items)
         (λ units. InTurn SaysPad (lines sorts.Pad units) pads.new.items) (map token unit.now)) }
 {

@@ -14,7 +14,8 @@ use text_lex::one_split;
 
 /// A text has one record or one refusal, and not both; want of memory aside.
 pub fn texts_have_one_bias()
-    ensures { (text : List ℕ) (a b : Result Record (Error Kind)) → ReadsBias text a → ReadsBias text b → Agree Want a b }
+    ensures { (text : List ℕ) (a b : Result Record (Error Kind)) → ReadsBias text a → ReadsBias text b →
+        Agree Want a b }
 {
     one_split();
     texts_have_one_number();

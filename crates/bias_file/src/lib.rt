@@ -1,7 +1,9 @@
-//! The bias file: the potentials of the supply nets, how far their nodes may be from these, where the pads stand, and what the cells draw.
+//! The bias file: the potentials of the supply nets, how far their nodes may be from these, where the pads stand, and
+//! what the cells draw.
 //!
 //! A bias file is lines of words: `supply NET V`, `droplimit NET V`, `pad NET LAYER x y`, `cell MACRO LOW HIGH` and
-//! `instance NAME LOW HIGH`, of which the last two may have one number for both ends. A word that begins with `#` makes a comment to the end of its line, and empty lines are passed over. `read_bias` reads it.
+//! `instance NAME LOW HIGH`, of which the last two may have one number for both ends. A word that begins with `#` makes
+//! a comment to the end of its line, and empty lines are passed over. `read_bias` reads it.
 #![tactic(auto)]
 
 mod error;

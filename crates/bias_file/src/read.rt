@@ -17,11 +17,12 @@ use text_lex::Mode;
 
 /// Reads a bias file.
 ///
-/// The numbers of volts and amperes may have a scale, those of places may not: `supply` and `droplimit` have 24 places and the
-/// limit 10^25 yV (10 V), `cell` and `instance` 15 and 10^18 fA (1000 A), `pad` 6 and 10^11 pm (100 mm). Those of `droplimit`,
-/// `cell` and `instance` are not below 0.
+/// The numbers of volts and amperes may have a scale, those of places may not: `supply` and `droplimit` have 24 places
+/// and the limit 10^25 yV (10 V), `cell` and `instance` 15 and 10^18 fA (1000 A), `pad` 6 and 10^11 pm (100 mm). Those
+/// of `droplimit`, `cell` and `instance` are not below 0.
 ///
-/// Errors: the refusal at the earliest word, and there of the first kind, as `BiasKind` lists them; `Want` for want of memory.
+/// Errors: the refusal at the earliest word, and there of the first kind, as `BiasKind` lists them; `Want` for want of
+/// memory.
 pub fn read_bias(alloc: Global, text: &[u8]) -> Result<Bias, BiasError>
     ensures reads { ReadsBias text.now result }
     ensures keeps { IfOk result KeepsLimits }

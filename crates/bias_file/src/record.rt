@@ -49,8 +49,8 @@ pub struct PadAt {
     pub y: i64,
 }
 
-/// The line `cell MACRO LOW HIGH`, for each component of a macro that has no line of its own, or `instance NAME LOW HIGH`, for one
-/// component. A line with one number gives both ends.
+/// The line `cell MACRO LOW HIGH`, for each component of a macro that has no line of its own, or `instance NAME LOW
+/// HIGH`, for one component. A line with one number gives both ends.
 #[derive(Debug, Drop)]
 pub struct Amps {
     /// The number of the line, from 1.

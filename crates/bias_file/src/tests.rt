@@ -1,6 +1,7 @@
-//! Texts whose records and refusals were worked out from the rule of the format: 1 V is 10^24 yV, 1 A is 10^15 fA, 1 µm is 10^6 pm.
+//! Texts whose records and refusals were worked out from the rule of the format: 1 V is 10^24 yV, 1 A is 10^15 fA, 1 µm
+//! is 10^6 pm.
 use super::*;
-use BiasKind::{Number, Syntax, Twice};
+use BiasKind::{Falling, Number, Syntax, Twice};
 use DecimalError::{NotNumber, Range, Vanishes};
 use fixed_decimal::DecimalError;
 use outside::Place;
@@ -13,7 +14,8 @@ use std::test::Fail;
 const SMALL: &[u8] =
     b"supply VDD 1.1\nsupply VSS 0\ninstance u1 333.3u\npad VDD metal4 3 0\npad VSS metal4 1 1.4\n";
 
-/// The kinds of lines that the small design lacks, with what a line may have besides: comments, white space, names of any bytes.
+/// The kinds of lines that the small design lacks, with what a line may have besides: comments, white space, names of
+/// any bytes.
 const OTHER: &[u8] =
     b"# other lines\n\n\tdroplimit VDD 0.1 # volts\r\ncell C0 0.25u\ndroplimit VSS 5e-25\nsupply ; -900m\npad ( ) -1e2 0.0000005 #\ncell supply 1k\ninstance ; -0";
 
@@ -141,7 +143,7 @@ fn refusal(alloc: Global, text: &[u8]) -> Option<BiasError> {
 /// A text, the line and the word of its refusal, and what is wrong with the word.
 type Refused = (&'static [u8], u64, u64, BiasKind);
 
-const REFUSED: [Refused; 121] = [
+const REFUSED: [Refused; 127] = [
     // the first word of a line
     (b"voltage VDD 1.1\n", 1, 1, Syntax),
     (b"SUPPLY VDD 1.1\n", 1, 1, Syntax),
@@ -172,8 +174,8 @@ const REFUSED: [Refused; 121] = [
     // a word too many
     (b"supply VDD 1.1 V\n", 1, 4, Syntax),
     (b"droplimit VDD 0.1 0.1\n", 1, 4, Syntax),
-    (b"cell C0 1u 2u\n", 1, 4, Syntax),
-    (b"instance u1 1u 1u", 1, 4, Syntax),
+    (b"cell C0 1u 2u 3u\n", 1, 5, Syntax),
+    (b"instance u1 1u 1u 1u", 1, 5, Syntax),
     (b"pad VDD metal4 3 0 0\n", 1, 6, Syntax),
     (b"supply VDD 1.1 ; supply VSS 0\n", 1, 4, Syntax),
     (b"supply VDD 1.1 \\\n", 1, 4, Syntax),
@@ -326,11 +328,18 @@ const REFUSED: [Refused; 121] = [
         Number(NotNumber),
     ),
     (
-        b"supply VDD 1.1\npad VDD metal4 3 0\n\ncell C0 -0u 1u\n",
+        b"supply VDD 1.1\npad VDD metal4 3 0\n\ncell C0 -0u 1u ;\n",
         4,
-        4,
+        5,
         Syntax,
     ),
+    // a range that falls, and its second number
+    (b"cell C0 2u 1u\n", 1, 4, Falling),
+    (b"instance u1 1f 0 # low\n", 1, 4, Falling),
+    (b"cell C0 2u x\n", 1, 4, Number(NotNumber)),
+    (b"cell C0 2u 1e9", 1, 4, Number(Range)),
+    (b"cell C0 2u -1u\n", 1, 4, Syntax),
+    (b"cell C0 x 1u\n", 1, 3, Number(NotNumber)),
 ];
 
 fn compare_refusals(rt: &impl Abort, alloc: Global, rows: &[Refused]) {
@@ -473,7 +482,8 @@ fn accepted_texts(rt: HostRuntime) -> Result<(), Fail> {
     compare_counts(&rt, rt.alloc(), &ACCEPTED)
 }
 
-/// Where the bias file of the small design is refused as `Syntax` when it is cut behind so many bytes, or (0, 0) where it is read.
+/// Where the bias file of the small design is refused as `Syntax` when it is cut behind so many bytes, or (0, 0) where
+/// it is read.
 const CUTS: [(u64, u64); 88] = [
     (0, 0),
     (1, 1),

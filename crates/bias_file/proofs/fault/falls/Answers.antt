@@ -1,4 +1,4 @@
-use Rattle.std.proofs.Common.{◌≡◌, ◌↔◌, ◌≤◌, ◌^◌, ◌<ℤ◌, IsTrue, ℤ, Ok, Err, subst, arith, to_z, of_z}
+use Rattle.std.proofs.Common.{◌↔◌, ◌≤◌, ◌^◌, ◌<ℤ◌, IsTrue, subst, arith, to_z, of_z}
 use Rattle.std.specs.Prelude.{unsigned_abs}
 use Rattle.std.specs.Int.{w128}
 use Rattle.bias_file.specs.Number.{amperes}

@@ -1,4 +1,4 @@
-use Rattle.std.proofs.Common.{Ok, ◌≡◌, subst}
+use Rattle.std.proofs.Common.{subst}
 use Rattle.bias_file.proofs.Numbers.{IsOnly, none_refused}
 use Rattle.bias_file.proofs.fault.number_fault.Goals as goal
 

@@ -1,4 +1,4 @@
-use Rattle.std.proofs.Common.{◌≡◌, ◌↔◌, true, IsTrue, List, Contains, refl, sym, subst}
+use Rattle.std.proofs.Common.{refl}
 use Rattle.bias_file.specs.declared.sort.Sort.TheVariants.{Supply, DropLimit, Cell, Instance}
 use Rattle.bias_file.proofs.Taking.{stands_by}
 use Rattle.bias_file.proofs.fault.stands_again.Goals as goal

@@ -1,4 +1,3 @@
-use Rattle.std.proofs.Common.{refl}
 use Rattle.bias_file.proofs.Limits.{lists_kept}
 use Rattle.bias_file.proofs.read.bias_of.Goals as goal
 

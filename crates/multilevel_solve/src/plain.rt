@@ -1,4 +1,4 @@
-ghost use Rattle.std.specs.Prelude.{◌≡◌, ◌<◌, ◌≤ℤ◌, ℕ, pos, None, length};
+ghost use Rattle.std.specs.Prelude.{◌≡◌, ◌<◌, ℕ, None, length};
 
 use grid_net::{Net, Resistor, Solver};
 use level_region::Region;
@@ -48,13 +48,6 @@ fn drawn(net: &Net, node: u32, end: End) -> i128
     }
 }
 
-/// A number, or 1 where it is less.
-fn at_least_one(number: i128) -> i128
-    ensures { pos 1 ≤ℤ result }
-{
-    if number < 1 { 1 } else { number }
-}
-
 /// The currents that leave a node, and the sum of the conductances at it.
 fn flows_at(
     resistors: &[Resistor],
@@ -67,10 +60,10 @@ fn flows_at(
     let mut conductance: i128 = 0;
     for place in around {
         if let Some(r) = resistors.get(*place as usize) {
-            let ohms = at_least_one(r.ohms);
             let there = x.get(r.end_across(node) as usize).copied().unwrap_or(here);
-            outflow = outflow.saturating_add(here.saturating_sub(there) / ohms);
-            conductance = conductance.saturating_add(CONDUCTANCE / ohms);
+            let flow = here.saturating_sub(there).checked_div(r.ohms);
+            outflow = outflow.saturating_add(flow.unwrap_or(0));
+            conductance = conductance.saturating_add(CONDUCTANCE.checked_div(r.ohms).unwrap_or(0));
         }
     }
     (outflow, conductance)
@@ -84,9 +77,10 @@ fn settled(net: &Net, x: &[i128], node: u32, end: End) -> i128
     let here = x[node as usize];
     let (outflow, conductance) = flows_at(net.resistors(), net.around(node), x, node, here);
     let spare = outflow.saturating_add(drawn(net, node, end));
-    let scaled = spare.saturating_mul(CONDUCTANCE / 1_000_000)
-        / at_least_one(conductance / 1_000_000);
-    here.saturating_sub(scaled)
+    let scaled = spare
+        .saturating_mul(CONDUCTANCE / 1_000_000)
+        .checked_div(conductance / 1_000_000);
+    here.saturating_sub(scaled.unwrap_or(0))
 }
 
 /// One sweep over the nodes.

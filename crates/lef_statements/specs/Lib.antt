@@ -1,0 +1,4 @@
+pub mod Word
+pub mod Passing
+pub mod First
+pub mod Laws

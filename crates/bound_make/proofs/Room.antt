@@ -22,6 +22,13 @@ times_zero r = let a = times_sum r (pos 0) (pos 0) in omega (arith, ints, a)
 abbrev IsHeld : ℤ → Type 0
 IsHeld a = (held limit a ≡ a) ⊎ (((held limit a ≡ limit) × (limit ≤ℤ a)) ⊎ ((held limit a ≡ neg_ℤ limit) × (a <ℤ neg_ℤ limit)))
 
+-- What the room of a step rests on: where it ends, as a flow `to` that is `is`, and as a potential, which both fit.
+pub record IsEnd (z r from to is : ℤ) : Type 0 where
+  pub from_is : from ≡ held_rule z r
+  pub within : IsInLimit (2 * 10 ^ 37) to
+  pub volts_are : r *ℤ to ≡ r *ℤ is
+  pub volts_within : IsInLimit (4 * value_limit) (r *ℤ to)
+
 -- A flow that is not held at the upper limit is at least the floor, and its potential lies between 0 and the difference, or near it.
 module _ (z r u : ℤ) (resists : pos 1 ≤ℤ r) (few : r ≤ℤ pos (10 ^ 12)) (within : IsInLimit (2 * value_limit) z) (some : pos 1 ≤ℤ u) where
   abbrev F : ℤ
@@ -95,6 +102,35 @@ module _ (z r u : ℤ) (resists : pos 1 ≤ℤ r) (few : r ≤ℤ pos (10 ^ 12))
           let a = times_le r (F +ℤ pos 1) (neg_ℤ limit) (omega (arith, ints, resists)) (omega (arith, ints, lt)) in
           let b = times_le r (neg_ℤ limit) (pos 0) (omega (arith, ints, resists)) (omega (arith, ints)) in
           (omega (arith, ints, same, a, f.next_is_above, within), omega (arith, ints, same, b, times_zero r))
+
+  -- The flow at which the room ends, counted up or down from the held flow by the units that are taken.
+  pub rise_end : (from more : ℤ) → from ≡ flow → more ≡ units → IsEnd z r from (from +ℤ more) (flow +ℤ units)
+  rise_end from more e n =
+      let same : from +ℤ more ≡ flow +ℤ units = omega (arith, ints, e, n) in
+      let volts : r *ℤ (from +ℤ more) ≡ r *ℤ (flow +ℤ units) = ap (λ i. r *ℤ i) same in
+      record {
+        from_is = e;
+        within = (omega (arith, ints, same, flow_within, units_some), omega (arith, ints, same, flow_within, units_fit));
+        volts_are = volts;
+        volts_within = (
+          omega (arith, ints, volts, times_sum r flow units, flow_volts, units_pos, resists),
+          omega (arith, ints, volts, times_sum r flow units, flow_volts, units_far),
+        );
+      }
+
+  pub fall_end : (from less : ℤ) → from ≡ flow → less ≡ units → IsEnd z r from (from -ℤ less) (flow -ℤ units)
+  fall_end from less e n =
+      let same : from -ℤ less ≡ flow -ℤ units = omega (arith, ints, e, n) in
+      let volts : r *ℤ (from -ℤ less) ≡ r *ℤ (flow -ℤ units) = ap (λ i. r *ℤ i) same in
+      record {
+        from_is = e;
+        within = (omega (arith, ints, same, flow_within, units_fit), omega (arith, ints, same, flow_within, units_some));
+        volts_are = volts;
+        volts_within = (
+          omega (arith, ints, volts, times_difference r flow units, flow_volts, units_far),
+          omega (arith, ints, volts, times_difference r flow units, flow_volts, units_pos, resists),
+        );
+      }
 
   -- ---- rising
   pub rise_some : flow <ℤ limit → pos 1 ≤ℤ (r *ℤ (flow +ℤ units) -ℤ z)

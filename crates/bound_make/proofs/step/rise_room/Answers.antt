@@ -3,153 +3,85 @@ use mir.Syntax.{w128}
 use Rattle.std.specs.Int.{int_min}
 use Rattle.std.proofs.lemmas.Int.{ints}
 use Rattle.rounding.specs.Rounding.{floor_div}
-use Rattle.rounding.specs.Laws.{times_sum}
 use Rattle.bound_make.specs.inside.Moving.{held_rule}
-use Rattle.bound_make.proofs.Room.{far, limit, units_some, units_fit, units_far, units_pos, flow_within, flow_volts, rise_some, rise_room_is}
+use Rattle.bound_make.proofs.Room.{far, limit, IsEnd, rise_end, rise_some, rise_room_is}
 use Rattle.bound_make.proofs.step.rise_room.Goals as goal
+
+-- What each goal below rests on.
+ends : (c : goal.After-min-more) → IsEnd c.args.difference c.args.ohms c.held_flow-flow.result (c.held_flow-flow.result +ℤ c.min-more.result) (held_rule c.args.difference c.args.ohms +ℤ int_min c.args.units (floor_div far c.args.ohms))
+ends c =
+    let fz = c.ranges.difference in
+    let fr = c.ranges.ohms in
+    let fu = c.ranges.units in
+    let fd : SFits w128 c.div_floor.result = search rules in
+    let flow = simp to_z-of_z at c.held_flow-flow.ensures.value in
+    let most = simp to_z-of_z at c.div_floor.ensures in
+    let least = simp to_z-of_z at c.min-more.ensures.value in
+    rise_end c.args.difference c.args.ohms c.args.units c.requires.ohms.0 c.requires.ohms.1 c.requires.difference c.requires.units c.held_flow-flow.result c.min-more.result flow (least ∙ ap (int_min c.args.units) most)
 
 pub overflow_add-result : goal.overflow_add-result
 overflow_add-result c =
-    let z = c.args.difference in
-    let r = c.args.ohms in
-    let u = c.args.units in
-    let fz = c.ranges.difference in
-    let fr = c.ranges.ohms in
-    let fu = c.ranges.units in
     let a : SFits w128 c.held_flow-flow.result = search rules in
     let b : SFits w128 c.min-more.result = search rules in
-    let d : SFits w128 c.div_floor.result = search rules in
-    let e : c.held_flow-flow.result ≡ held_rule z r = simp to_z-of_z at c.held_flow-flow.ensures.value in
-    let q = simp to_z-of_z at c.div_floor.ensures in
-    let m = simp to_z-of_z at c.min-more.ensures.value in
-    let n : c.min-more.result ≡ int_min u (floor_div far r) = m ∙ ap (int_min u) q in
-    let w = flow_within z r u c.requires.ohms.0 c.requires.ohms.1 c.requires.difference c.requires.units in
-    let k = units_some z r u c.requires.ohms.0 c.requires.ohms.1 c.requires.difference c.requires.units in
-    let l = units_fit z r u c.requires.ohms.0 c.requires.ohms.1 c.requires.difference c.requires.units in
-    let o = units_far z r u c.requires.ohms.0 c.requires.ohms.1 c.requires.difference c.requires.units in
-    let p = units_pos z r u c.requires.ohms.0 c.requires.ohms.1 c.requires.difference c.requires.units in
-    let v = flow_volts z r u c.requires.ohms.0 c.requires.ohms.1 c.requires.difference c.requires.units in
-    let s = times_sum r (held_rule z r) (int_min u (floor_div far r)) in
-    let t : c.held_flow-flow.result +ℤ c.min-more.result ≡ held_rule z r +ℤ int_min u (floor_div far r) = omega (arith, ints, e, n) in
-    let y : r *ℤ (c.held_flow-flow.result +ℤ c.min-more.result) ≡ r *ℤ (held_rule z r +ℤ int_min u (floor_div far r)) = ap (λ i. r *ℤ i) t in
-    omega (arith, ints, a, b, t, w, k, l)
+    omega (arith, ints, a, b, (ends c).within)
 
 pub overflow_mul-result : goal.overflow_mul-result
 overflow_mul-result c =
-    let z = c.args.difference in
     let r = c.args.ohms in
-    let u = c.args.units in
-    let fz = c.ranges.difference in
+    let end = ends c in
+    let to = c.held_flow-flow.result +ℤ c.min-more.result in
     let fr = c.ranges.ohms in
-    let fu = c.ranges.units in
     let a : SFits w128 c.held_flow-flow.result = search rules in
     let b : SFits w128 c.min-more.result = search rules in
-    let d : SFits w128 c.div_floor.result = search rules in
-    let e : c.held_flow-flow.result ≡ held_rule z r = simp to_z-of_z at c.held_flow-flow.ensures.value in
-    let q = simp to_z-of_z at c.div_floor.ensures in
-    let m = simp to_z-of_z at c.min-more.ensures.value in
-    let n : c.min-more.result ≡ int_min u (floor_div far r) = m ∙ ap (int_min u) q in
-    let w = flow_within z r u c.requires.ohms.0 c.requires.ohms.1 c.requires.difference c.requires.units in
-    let k = units_some z r u c.requires.ohms.0 c.requires.ohms.1 c.requires.difference c.requires.units in
-    let l = units_fit z r u c.requires.ohms.0 c.requires.ohms.1 c.requires.difference c.requires.units in
-    let o = units_far z r u c.requires.ohms.0 c.requires.ohms.1 c.requires.difference c.requires.units in
-    let p = units_pos z r u c.requires.ohms.0 c.requires.ohms.1 c.requires.difference c.requires.units in
-    let v = flow_volts z r u c.requires.ohms.0 c.requires.ohms.1 c.requires.difference c.requires.units in
-    let s = times_sum r (held_rule z r) (int_min u (floor_div far r)) in
-    let t : c.held_flow-flow.result +ℤ c.min-more.result ≡ held_rule z r +ℤ int_min u (floor_div far r) = omega (arith, ints, e, n) in
-    let y : r *ℤ (c.held_flow-flow.result +ℤ c.min-more.result) ≡ r *ℤ (held_rule z r +ℤ int_min u (floor_div far r)) = ap (λ i. r *ℤ i) t in
-    let x : SFits w128 (c.held_flow-flow.result +ℤ c.min-more.result) = omega (arith, ints, t, w, k, l) in
-    let x2 : SFits w128 (r *ℤ (c.held_flow-flow.result +ℤ c.min-more.result)) = omega (arith, ints, y, s, o, p, v, c.requires.ohms) in
+    let x : SFits w128 to = omega (arith, ints, end.within) in
+    let x2 : SFits w128 (r *ℤ to) = omega (arith, ints, end.volts_within) in
     simp to_z-of_z (omega (arith, ints, x2))
 
 pub overflow_sub-result : goal.overflow_sub-result
 overflow_sub-result c =
     let z = c.args.difference in
     let r = c.args.ohms in
-    let u = c.args.units in
+    let end = ends c in
+    let to = c.held_flow-flow.result +ℤ c.min-more.result in
     let fz = c.ranges.difference in
     let fr = c.ranges.ohms in
-    let fu = c.ranges.units in
     let a : SFits w128 c.held_flow-flow.result = search rules in
     let b : SFits w128 c.min-more.result = search rules in
-    let d : SFits w128 c.div_floor.result = search rules in
-    let e : c.held_flow-flow.result ≡ held_rule z r = simp to_z-of_z at c.held_flow-flow.ensures.value in
-    let q = simp to_z-of_z at c.div_floor.ensures in
-    let m = simp to_z-of_z at c.min-more.ensures.value in
-    let n : c.min-more.result ≡ int_min u (floor_div far r) = m ∙ ap (int_min u) q in
-    let w = flow_within z r u c.requires.ohms.0 c.requires.ohms.1 c.requires.difference c.requires.units in
-    let k = units_some z r u c.requires.ohms.0 c.requires.ohms.1 c.requires.difference c.requires.units in
-    let l = units_fit z r u c.requires.ohms.0 c.requires.ohms.1 c.requires.difference c.requires.units in
-    let o = units_far z r u c.requires.ohms.0 c.requires.ohms.1 c.requires.difference c.requires.units in
-    let p = units_pos z r u c.requires.ohms.0 c.requires.ohms.1 c.requires.difference c.requires.units in
-    let v = flow_volts z r u c.requires.ohms.0 c.requires.ohms.1 c.requires.difference c.requires.units in
-    let s = times_sum r (held_rule z r) (int_min u (floor_div far r)) in
-    let t : c.held_flow-flow.result +ℤ c.min-more.result ≡ held_rule z r +ℤ int_min u (floor_div far r) = omega (arith, ints, e, n) in
-    let y : r *ℤ (c.held_flow-flow.result +ℤ c.min-more.result) ≡ r *ℤ (held_rule z r +ℤ int_min u (floor_div far r)) = ap (λ i. r *ℤ i) t in
-    let x : SFits w128 (c.held_flow-flow.result +ℤ c.min-more.result) = omega (arith, ints, t, w, k, l) in
-    let x2 : SFits w128 (r *ℤ (c.held_flow-flow.result +ℤ c.min-more.result)) = omega (arith, ints, y, s, o, p, v, c.requires.ohms) in
-    let x3 : SFits w128 ((r *ℤ (c.held_flow-flow.result +ℤ c.min-more.result)) -ℤ z) = omega (arith, ints, y, s, o, p, v, c.requires.ohms, c.requires.difference) in
+    let x : SFits w128 to = omega (arith, ints, end.within) in
+    let x2 : SFits w128 (r *ℤ to) = omega (arith, ints, end.volts_within) in
+    let x3 : SFits w128 ((r *ℤ to) -ℤ z) = omega (arith, ints, end.volts_within, c.requires.difference) in
     simp to_z-of_z (omega (arith, ints, x3))
 
 pub returns-clause-positive : goal.returns-clause-positive
 returns-clause-positive c =
     let z = c.args.difference in
     let r = c.args.ohms in
-    let u = c.args.units in
+    let end = ends c in
+    let to = c.held_flow-flow.result +ℤ c.min-more.result in
     let fz = c.ranges.difference in
     let fr = c.ranges.ohms in
-    let fu = c.ranges.units in
     let a : SFits w128 c.held_flow-flow.result = search rules in
     let b : SFits w128 c.min-more.result = search rules in
-    let d : SFits w128 c.div_floor.result = search rules in
-    let e : c.held_flow-flow.result ≡ held_rule z r = simp to_z-of_z at c.held_flow-flow.ensures.value in
-    let q = simp to_z-of_z at c.div_floor.ensures in
-    let m = simp to_z-of_z at c.min-more.ensures.value in
-    let n : c.min-more.result ≡ int_min u (floor_div far r) = m ∙ ap (int_min u) q in
-    let w = flow_within z r u c.requires.ohms.0 c.requires.ohms.1 c.requires.difference c.requires.units in
-    let k = units_some z r u c.requires.ohms.0 c.requires.ohms.1 c.requires.difference c.requires.units in
-    let l = units_fit z r u c.requires.ohms.0 c.requires.ohms.1 c.requires.difference c.requires.units in
-    let o = units_far z r u c.requires.ohms.0 c.requires.ohms.1 c.requires.difference c.requires.units in
-    let p = units_pos z r u c.requires.ohms.0 c.requires.ohms.1 c.requires.difference c.requires.units in
-    let v = flow_volts z r u c.requires.ohms.0 c.requires.ohms.1 c.requires.difference c.requires.units in
-    let s = times_sum r (held_rule z r) (int_min u (floor_div far r)) in
-    let t : c.held_flow-flow.result +ℤ c.min-more.result ≡ held_rule z r +ℤ int_min u (floor_div far r) = omega (arith, ints, e, n) in
-    let y : r *ℤ (c.held_flow-flow.result +ℤ c.min-more.result) ≡ r *ℤ (held_rule z r +ℤ int_min u (floor_div far r)) = ap (λ i. r *ℤ i) t in
-    let x : SFits w128 (c.held_flow-flow.result +ℤ c.min-more.result) = omega (arith, ints, t, w, k, l) in
-    let x2 : SFits w128 (r *ℤ (c.held_flow-flow.result +ℤ c.min-more.result)) = omega (arith, ints, y, s, o, p, v, c.requires.ohms) in
-    let x3 : SFits w128 ((r *ℤ (c.held_flow-flow.result +ℤ c.min-more.result)) -ℤ z) = omega (arith, ints, y, s, o, p, v, c.requires.ohms, c.requires.difference) in
-    let cond = c.if-flow-ge-GREATEST_FLOW.false in
-    let low : held_rule z r <ℤ limit = omega (arith, ints, a, e, cond) in
-    let some = rise_some z r u c.requires.ohms.0 c.requires.ohms.1 c.requires.difference c.requires.units low in
-    simp to_z-of_z (omega (arith, ints, y, some))
+    let x : SFits w128 to = omega (arith, ints, end.within) in
+    let x2 : SFits w128 (r *ℤ to) = omega (arith, ints, end.volts_within) in
+    let x3 : SFits w128 ((r *ℤ to) -ℤ z) = omega (arith, ints, end.volts_within, c.requires.difference) in
+    let held : held_rule z r <ℤ limit = omega (arith, ints, a, end.from_is, c.if-flow-ge-GREATEST_FLOW.false) in
+    let some = rise_some z r c.args.units c.requires.ohms.0 c.requires.ohms.1 c.requires.difference c.requires.units held in
+    simp to_z-of_z (omega (arith, ints, end.volts_are, some))
 
 pub returns-clause-room : goal.returns-clause-room
 returns-clause-room c = λ i least less.
     let z = c.args.difference in
     let r = c.args.ohms in
-    let u = c.args.units in
+    let end = ends c in
+    let to = c.held_flow-flow.result +ℤ c.min-more.result in
     let fz = c.ranges.difference in
     let fr = c.ranges.ohms in
-    let fu = c.ranges.units in
     let a : SFits w128 c.held_flow-flow.result = search rules in
     let b : SFits w128 c.min-more.result = search rules in
-    let d : SFits w128 c.div_floor.result = search rules in
-    let e : c.held_flow-flow.result ≡ held_rule z r = simp to_z-of_z at c.held_flow-flow.ensures.value in
-    let q = simp to_z-of_z at c.div_floor.ensures in
-    let m = simp to_z-of_z at c.min-more.ensures.value in
-    let n : c.min-more.result ≡ int_min u (floor_div far r) = m ∙ ap (int_min u) q in
-    let w = flow_within z r u c.requires.ohms.0 c.requires.ohms.1 c.requires.difference c.requires.units in
-    let k = units_some z r u c.requires.ohms.0 c.requires.ohms.1 c.requires.difference c.requires.units in
-    let l = units_fit z r u c.requires.ohms.0 c.requires.ohms.1 c.requires.difference c.requires.units in
-    let o = units_far z r u c.requires.ohms.0 c.requires.ohms.1 c.requires.difference c.requires.units in
-    let p = units_pos z r u c.requires.ohms.0 c.requires.ohms.1 c.requires.difference c.requires.units in
-    let v = flow_volts z r u c.requires.ohms.0 c.requires.ohms.1 c.requires.difference c.requires.units in
-    let s = times_sum r (held_rule z r) (int_min u (floor_div far r)) in
-    let t : c.held_flow-flow.result +ℤ c.min-more.result ≡ held_rule z r +ℤ int_min u (floor_div far r) = omega (arith, ints, e, n) in
-    let y : r *ℤ (c.held_flow-flow.result +ℤ c.min-more.result) ≡ r *ℤ (held_rule z r +ℤ int_min u (floor_div far r)) = ap (λ i. r *ℤ i) t in
-    let x : SFits w128 (c.held_flow-flow.result +ℤ c.min-more.result) = omega (arith, ints, t, w, k, l) in
-    let x2 : SFits w128 (r *ℤ (c.held_flow-flow.result +ℤ c.min-more.result)) = omega (arith, ints, y, s, o, p, v, c.requires.ohms) in
-    let x3 : SFits w128 ((r *ℤ (c.held_flow-flow.result +ℤ c.min-more.result)) -ℤ z) = omega (arith, ints, y, s, o, p, v, c.requires.ohms, c.requires.difference) in
-    let cond = c.if-flow-ge-GREATEST_FLOW.false in
-    let low : held_rule z r <ℤ limit = omega (arith, ints, a, e, cond) in
-    rise_room_is z r u c.requires.ohms.0 c.requires.ohms.1 c.requires.difference c.requires.units low i least (let small : i <ℤ ((r *ℤ (c.held_flow-flow.result +ℤ c.min-more.result)) -ℤ z) = simp to_z-of_z at less in subst (λ n. i <ℤ n) (ap (λ n. n -ℤ z) y) small)
+    let x : SFits w128 to = omega (arith, ints, end.within) in
+    let x2 : SFits w128 (r *ℤ to) = omega (arith, ints, end.volts_within) in
+    let x3 : SFits w128 ((r *ℤ to) -ℤ z) = omega (arith, ints, end.volts_within, c.requires.difference) in
+    let held : held_rule z r <ℤ limit = omega (arith, ints, a, end.from_is, c.if-flow-ge-GREATEST_FLOW.false) in
+    let small : i <ℤ ((r *ℤ to) -ℤ z) = simp to_z-of_z at less in
+    rise_room_is z r c.args.units c.requires.ohms.0 c.requires.ohms.1 c.requires.difference c.requires.units held i least (subst (λ n. i <ℤ n) (ap (λ n. n -ℤ z) end.volts_are) small)

@@ -6,8 +6,8 @@ use Rattle.std.proofs.Math.IntN.{*ℤ_comm}
 use Rattle.grid_net.specs.declared.part.Resistor.{Resistor}
 use Rattle.grid_net.specs.Network.{IsResistorOf, total, outflow, entry_of, places_at, other_end}
 use Rattle.grid_net.specs.inside.Flows.{flow_over}
-use Rattle.grid_net.specs.Certificate.{flow_limit}
-use Rattle.std.specs.Int.{int_max}
+use Rattle.grid_net.specs.Certificate.{flow_limit, value_limit}
+use Rattle.std.specs.Int.{int_max, int_min}
 use Rattle.rounding.specs.Rounding.{floor_div, ceil_div}
 use Rattle.rounding.specs.Laws.{times_sum, times_next, times_one, times_le, times_lt_out, floor_is, ceiling_is}
 use Rattle.grid_net.specs.Laws.Flows.{around_is_outflow, places_are_places, other_is_node}
@@ -109,3 +109,19 @@ shares_down n count spare units m u some =
     let same : count *ℤ units ≡ count *ℤ floor_div spare count = ap (λ z. count *ℤ z) u in
     let wide : (units *ℤ pos n) ≤ℤ (units *ℤ count) = times_le units (pos n) count (omega (arith, ints, units_some)) (omega (arith, ints, clamps, m)) in
     (units_some, omega (arith, ints, q.reached, same, wide, *ℤ_comm units (pos n), *ℤ_comm units count))
+
+-- The least of several rooms, of which each place before an index keeps one, is the room of each.
+pub record IsLeast (Keeps : ℤ → ℕ → Type 0) (around : List ℕ) (index : ℕ) (least : ℤ) : Type 0 where
+  pub positive : pos 1 ≤ℤ least
+  pub at_most : least ≤ℤ pos value_limit
+  pub room : (k : ℕ) → k < index → Keeps least (get_or around k 0)
+
+pub least_step : (Keeps : ℤ → ℕ → Type 0) → ((a b : ℤ) (place : ℕ) → a ≤ℤ b → Keeps b place → Keeps a place) → (around : List ℕ) (index : ℕ) (old room new : ℤ) → IsLeast Keeps around index old → pos 1 ≤ℤ room → Keeps room (get_or around index 0) → new ≡ int_min old room → IsLeast Keeps around (index + 1) new
+least_step Keeps less around index old room new so_far some here is = record {
+  positive = omega (arith, ints, clamps, is, some, so_far.positive);
+  at_most = omega (arith, ints, clamps, is, so_far.at_most);
+  room = λ k l. elim (cases_eq k index) [
+    | inl same ↦ subst (λ (n : ℕ). Keeps new (get_or around n 0)) (sym same) (less new room (get_or around index 0) (omega (arith, ints, clamps, is)) here)
+    | inr ne ↦ less new old (get_or around k 0) (omega (arith, ints, clamps, is)) (so_far.room k (omega arith))
+  ];
+}

@@ -18,9 +18,16 @@ use Rattle.bound_make.proofs.Halves.{high_is_half, low_is_half, tight_from_sides
 use Rattle.bound_make.proofs.Answer.{holds_when_held, tight_when_held, low_holds_when_held, low_tight_when_held}
 use Rattle.bound_make.proofs.Made.{same_list}
 
-module _ (net : Network) (wf : IsNetwork net) (s : Scale) (range : IsRangeOf net s.bottom s.top (scale_width net s)) (x w high low : List ℤ)
-    (high_size : length high ≡ net.nodes) (low_size : length low ≡ net.nodes)
-    (of_high : IsMade High net s.bottom s.top (scale_width net s) x high) (of_low : IsMade Low net s.bottom s.top (scale_width net s) w low) where
+-- Two lists that are made of two proposals, by the numbers of a scale.
+pub record AreMade (net : Network) (s : Scale) (x w high low : List ℤ) : Type 0 where
+  pub wf : IsNetwork net
+  pub range : IsRangeOf net s.bottom s.top (scale_width net s)
+  pub high_size : length high ≡ net.nodes
+  pub low_size : length low ≡ net.nodes
+  pub of_high : IsMade High net s.bottom s.top (scale_width net s) x high
+  pub of_low : IsMade Low net s.bottom s.top (scale_width net s) w low
+
+module _ (net : Network) (s : Scale) (x w high low : List ℤ) (made : AreMade net s x w high low) where
   abbrev X : ℕ → ℤ
   X = entry_of (start_in net s x)
 
@@ -28,12 +35,12 @@ module _ (net : Network) (wf : IsNetwork net) (s : Scale) (range : IsRangeOf net
   W = entry_of (start_in net s w)
 
   high_made : IsHighHalf net (entry_of high) × IsTightAbove floor_div net (entry_of high)
-  high_made = high_is_half net wf range.level range.ohms s.bottom s.top range.fits range.pads X (entry_of high)
-      (subst (λ (n : ℕ). IsHighAnswer held_rule net s.bottom s.top n X (entry_of high)) range.width_is of_high)
+  high_made = high_is_half net made.wf made.range.level made.range.ohms s.bottom s.top made.range.fits made.range.pads X (entry_of high)
+      (subst (λ (n : ℕ). IsHighAnswer held_rule net s.bottom s.top n X (entry_of high)) made.range.width_is made.of_high)
 
   low_made : IsLowHalf net (entry_of low) × IsTightBelow floor_div net (entry_of low)
-  low_made = low_is_half net wf range.level range.ohms s.bottom s.top range.fits range.pads W (entry_of low)
-      (subst (λ (n : ℕ). IsLowAnswer held_rule net s.bottom s.top n W (entry_of low)) range.width_is of_low)
+  low_made = low_is_half net made.wf made.range.level made.range.ohms s.bottom s.top made.range.fits made.range.pads W (entry_of low)
+      (subst (λ (n : ℕ). IsLowAnswer held_rule net s.bottom s.top n W (entry_of low)) made.range.width_is made.of_low)
 
   pub certificate_made : IsCertificate net high low
   certificate_made = record { high_half = high_made.0; low_half = low_made.0 }
@@ -42,10 +49,10 @@ module _ (net : Network) (wf : IsNetwork net) (s : Scale) (range : IsRangeOf net
   tight_made = tight_from_sides net high low high_made.1 low_made.1
 
   pub ranges_made : LieInRange net s high low
-  ranges_made = record { high_least = of_high.at_least; high_most = of_high.at_most; low_least = of_low.at_least; low_most = of_low.at_most }
+  ranges_made = record { high_least = made.of_high.at_least; high_most = made.of_high.at_most; low_least = made.of_low.at_least; low_most = made.of_low.at_most }
 
   reach : flow_reach net < flow_limit
-  reach = reach_in_limit net wf range.level range.ohms s.bottom s.top range.fits range.pads
+  reach = reach_in_limit net made.wf made.range.level made.range.ohms s.bottom s.top made.range.fits made.range.pads
 
   start_size : (p : List ℤ) → length (start_in net s p) ≡ net.nodes
   start_size p = length-map-range_with_len (λ j. start_value s.bottom s.top (scale_width net s) (entry_of p j) (pad_at net j)) 0 net.nodes
@@ -53,12 +60,12 @@ module _ (net : Network) (wf : IsNetwork net) (s : Scale) (range : IsRangeOf net
   pub stands : StandTo net s x w high low
   stands = record {
     kept = λ cert tight.
-        (let span = span_in_limit net wf range.level range.ohms s.bottom s.top range.fits range.pads in
-        let a = tight_when_held net wf flow_limit X s.bottom s.top range.pads reach span cert.high_half.holds (tight_above net (start_in net s x) (start_in net s w) tight) in
-        let b = low_tight_when_held net wf flow_limit W s.bottom s.top range.pads reach span cert.low_half.holds (tight_below net (start_in net s x) (start_in net s w) tight) in
-        (same_list net.nodes high (start_in net s x) high_size (start_size x) (of_high.the_start a.0 a.1), same_list net.nodes low (start_in net s w) low_size (start_size w) (of_low.the_start b.0 b.1)));
-    not_above = λ half. of_high.not_above (holds_when_held net wf flow_limit X half.flows half.holds);
-    not_below = λ half. of_low.not_below (low_holds_when_held net wf flow_limit W half.flows half.holds);
+        (let span = span_in_limit net made.wf made.range.level made.range.ohms s.bottom s.top made.range.fits made.range.pads in
+        let a = tight_when_held net made.wf flow_limit X s.bottom s.top made.range.pads reach span cert.high_half.holds (tight_above net (start_in net s x) (start_in net s w) tight) in
+        let b = low_tight_when_held net made.wf flow_limit W s.bottom s.top made.range.pads reach span cert.low_half.holds (tight_below net (start_in net s x) (start_in net s w) tight) in
+        (same_list net.nodes high (start_in net s x) made.high_size (start_size x) (made.of_high.the_start a.0 a.1), same_list net.nodes low (start_in net s w) made.low_size (start_size w) (made.of_low.the_start b.0 b.1)));
+    not_above = λ half. made.of_high.not_above (holds_when_held net made.wf flow_limit X half.flows half.holds);
+    not_below = λ half. made.of_low.not_below (low_holds_when_held net made.wf flow_limit W half.flows half.holds);
   }
 
 -- Where the lists are told, they are the proposals.

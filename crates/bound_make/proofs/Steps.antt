@@ -1,16 +1,16 @@
 -- How far a node may move: from the flows over its resistors to its sum.
-use Rattle.std.proofs.Common.{◌≡◌, ℕ, suc, ◌+◌, ◌*◌, ◌<◌, ℤ, pos, neg_ℤ, ◌+ℤ◌, ◌-ℤ◌, ◌*ℤ◌, ◌≤ℤ◌, ◌<ℤ◌, ◌⊎◌, inl, inr, arith, sym, ap, ◌∙◌, subst, List, [], ◌∷◌, length, get_or, All, suc-le-suc}
+use Rattle.std.proofs.Common.{◌≡◌, ℕ, suc, ◌+◌, ◌*◌, ◌^◌, ◌<◌, ◌≤◌, ℤ, pos, neg_ℤ, ◌+ℤ◌, ◌-ℤ◌, ◌*ℤ◌, ◌≤ℤ◌, ◌<ℤ◌, ◌⊎◌, inl, inr, arith, sym, ap, ◌∙◌, subst, List, [], ◌∷◌, length, get_or, All, suc-le-suc}
 use Rattle.std.proofs.lemmas.Int.{ints, clamps}
 use Rattle.std.proofs.lemmas.Bool.{cases_eq}
 use Rattle.std.proofs.Math.IntN.{*ℤ_comm}
 use Rattle.grid_net.specs.declared.part.Resistor.{Resistor}
-use Rattle.grid_net.specs.Network.{IsResistorOf, total, outflow, entry_of, places_at, other_end}
+use Rattle.grid_net.specs.Network.{IsResistorOf, total, outflow, entry_of, places_at, other_end, degree}
 use Rattle.grid_net.specs.inside.Flows.{flow_over}
 use Rattle.grid_net.specs.Certificate.{flow_limit, value_limit}
 use Rattle.std.specs.Int.{int_max, int_min}
 use Rattle.rounding.specs.Rounding.{floor_div, ceil_div}
 use Rattle.rounding.specs.Laws.{times_sum, times_next, times_one, times_le, times_lt_out, floor_is, ceiling_is}
-use Rattle.grid_net.specs.Laws.Flows.{around_is_outflow, places_are_places, other_is_node}
+use Rattle.grid_net.specs.Laws.Flows.{around_is_outflow, places_are_places, other_is_node, degree_from, degree_at_most}
 use Rattle.bound_make.specs.inside.Raising.{IsFlowRule}
 use Rattle.bound_make.specs.inside.Moving.{held_rule, GrowsLess, FallsAtMost, IsMovedAt}
 use Rattle.grid_net.specs.inside.Flows.{no_resistor}
@@ -34,6 +34,13 @@ total_more_by f g c (k ∷ ks) h =
     let next = times_next c (pos (length ks)) in
     let size : pos (suc (length ks)) ≡ pos (length ks) +ℤ pos 1 = omega (arith, ints) in
     omega (arith, ints, first, rest, next, ap (λ n. c *ℤ n) size)
+
+-- How many places there are around a node: its degree, which is small where there are few resistors.
+pub around_count : (rs : List Resistor) (node : ℕ) (around : List ℕ) → around ≡ places_at rs node → length rs ≤ 4 * 10 ^ 6 → (length around ≡ degree rs node) × (length around ≤ 4 * 10 ^ 6)
+around_count rs node around is few =
+    let count : length around ≡ degree rs node = ap length is ∙ sym (degree_from 0 rs node) in
+    let most = degree_at_most rs node in
+    (count, omega (arith, count, most, few))
 
 module _ (n : ℕ) (rs : List Resistor) (of_rs : All (IsResistorOf n) rs) (x : List ℤ) (node : ℕ) (around : List ℕ) (around_is : around ≡ places_at rs node) where
   pub is_place : (k : ℕ) → k < length around → get_or around k 0 < length rs

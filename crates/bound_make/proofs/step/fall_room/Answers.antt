@@ -1,4 +1,4 @@
-use Rattle.std.proofs.Common.{◌≡◌, ◌∙◌, ap, subst, ◌+ℤ◌, ◌-ℤ◌, ◌*ℤ◌, ◌<ℤ◌, ◌≤ℤ◌, neg_ℤ, arith, to_z-of_z, SFits, rules}
+use Rattle.std.proofs.Common.{◌∙◌, ap, subst, ◌-ℤ◌, ◌*ℤ◌, ◌<ℤ◌, ◌≤ℤ◌, neg_ℤ, arith, to_z-of_z, SFits, rules}
 use mir.Syntax.{w128}
 use Rattle.std.specs.Int.{int_min}
 use Rattle.std.proofs.lemmas.Int.{ints}
@@ -14,10 +14,9 @@ ends c =
     let fr = c.ranges.ohms in
     let fu = c.ranges.units in
     let fd : SFits w128 c.div_floor.result = search rules in
-    let flow = simp to_z-of_z at c.held_flow-flow.ensures.value in
-    let most = simp to_z-of_z at c.div_floor.ensures in
-    let least = simp to_z-of_z at c.min-less.ensures.value in
-    fall_end c.args.difference c.args.ohms c.args.units c.requires.ohms.0 c.requires.ohms.1 c.requires.difference c.requires.units c.held_flow-flow.result c.min-less.result flow (least ∙ ap (int_min c.args.units) most)
+    fall_end c.args.difference c.args.ohms c.args.units c.requires.ohms.0 c.requires.ohms.1 c.requires.difference c.requires.units c.held_flow-flow.result c.min-less.result
+    (simp to_z-of_z at c.held_flow-flow.ensures.value)
+    (simp to_z-of_z at c.min-less.ensures.value ∙ ap (int_min c.args.units) (simp to_z-of_z at c.div_floor.ensures))
 
 pub overflow_sub-result : goal.overflow_sub-result
 overflow_sub-result c =

@@ -1,12 +1,11 @@
-use Rattle.std.proofs.Common.{◌≡◌, ◌∙◌, ◌≤◌, ◌<◌, ◌*◌, ◌^◌, ℕ, pos, ◌≤ℤ◌, sym, ap, subst, arith, length, get_or, to_z, to_z-of_z, SFits, rules, List}
+use Rattle.std.proofs.Common.{◌≡◌, ◌∙◌, ◌<◌, ℕ, pos, ◌≤ℤ◌, ap, subst, arith, length, get_or, to_z, to_z-of_z, SFits, rules, List}
 use mir.Syntax.{w128}
 use Rattle.std.specs.Int.{int_max}
 use Rattle.std.proofs.lemmas.Int.{ints}
 use Rattle.grid_net.specs.declared.part.Resistor.{Resistor}
-use Rattle.grid_net.specs.Network.{degree, places_at}
-use Rattle.grid_net.specs.Laws.Flows.{degree_from, degree_at_most}
+use Rattle.grid_net.specs.Network.{places_at}
 use Rattle.bound_make.specs.inside.Moving.{FallsAtMost}
-use Rattle.bound_make.proofs.Steps.{fallen, shares_down}
+use Rattle.bound_make.proofs.Steps.{around_count, fallen, shares_down}
 use Rattle.bound_make.proofs.step.fall_step.Goals as goal
 
 pub least_fall-requires-clause-units : goal.least_fall-requires-clause-units
@@ -15,14 +14,12 @@ least_fall-requires-clause-units c =
     let node = c.args.node in
     let around = c.around-around.result.now in
     let is_around : around ≡ places_at rs node = c.around-around.ensures in
-    let count : length around ≡ degree rs node = ap length is_around ∙ sym (degree_from 0 rs node) in
-    let most = degree_at_most rs node in
-    let few : length around ≤ 4 * 10 ^ 6 = omega (arith, count, most, c.requires.built.few_resistors) in
-    let fa : SFits w128 (pos (length around)) = omega (arith, ints, few) in
+    let count = around_count rs node around is_around c.requires.built.few_resistors in
+    let fa : SFits w128 (pos (length around)) = omega (arith, ints, count) in
     let fm : SFits w128 c.max-count.result = search rules in
     let fs : SFits w128 c.args.spare = search rules in
     let fd : SFits w128 c.div_floor.result = search rules in
-    let tn : to_z w128 (length around) ≡ pos (length around) = omega (arith, ints, few) in
+    let tn : to_z w128 (length around) ≡ pos (length around) = omega (arith, ints, count) in
     let m = c.max-count.ensures.value ∙ ap (λ z. int_max z (pos 1)) tn in
     let u = simp to_z-of_z at c.div_floor.ensures in
     let share = shares_down (length around) c.max-count.result c.args.spare c.div_floor.result m u (omega (arith, ints, count, c.requires.spare)) in
@@ -36,15 +33,13 @@ returns-clause-room c =
     let node = c.args.node in
     let around = c.around-around.result.now in
     let is_around : around ≡ places_at rs node = c.around-around.ensures in
-    let count : length around ≡ degree rs node = ap length is_around ∙ sym (degree_from 0 rs node) in
-    let most = degree_at_most rs node in
-    let few : length around ≤ 4 * 10 ^ 6 = omega (arith, count, most, c.requires.built.few_resistors) in
-    let fa : SFits w128 (pos (length around)) = omega (arith, ints, few) in
+    let count = around_count rs node around is_around c.requires.built.few_resistors in
+    let fa : SFits w128 (pos (length around)) = omega (arith, ints, count) in
     let fm : SFits w128 c.max-count.result = search rules in
     let fs : SFits w128 c.args.spare = search rules in
     let fd : SFits w128 c.div_floor.result = search rules in
     let fl : SFits w128 c.least_fall.result = search rules in
-    let tn : to_z w128 (length around) ≡ pos (length around) = omega (arith, ints, few) in
+    let tn : to_z w128 (length around) ≡ pos (length around) = omega (arith, ints, count) in
     let m = c.max-count.ensures.value ∙ ap (λ z. int_max z (pos 1)) tn in
     let u = simp to_z-of_z at c.div_floor.ensures in
     let share = shares_down (length around) c.max-count.result c.args.spare c.div_floor.result m u (omega (arith, ints, count, c.requires.spare)) in

@@ -27,6 +27,24 @@ each_entry P n x size h = λ i d l. subst P (get_or_default x i (pos 0) d l) (h 
 room_falls : (f : ℤ → ℕ) (x : List ℤ) (i : ℕ) (v : ℤ) → i < length x → f v < f (entry_of x i) → sum_by f (set x i v) < sum_by f x
 room_falls f x i v l less = let e = sum_by-set f x i v (pos 0) l in omega (arith, e, less)
 
+-- A node that is no pad and may be raised by a step, since its sum is below 1, and stays so up to the step.
+pub record RisesBy (net : Network) (x : List ℤ) (node : ℕ) (step : ℤ) : Type 0 where
+  pub can : IsRaisable net x
+  pub node_in : node < net.nodes
+  pub none : pad_at net node ≡ None
+  pub some : pos 1 ≤ℤ step
+  pub short : held_sum net x node <ℤ pos 1
+  pub room : (e : ℤ) (y : ℕ → ℤ) → pos 0 ≤ℤ e → e <ℤ step → IsMovedAt net.nodes node e (entry_of x) y → outflow held_rule net.resistors y node <ℤ (outflow held_rule net.resistors (entry_of x) node +ℤ (pos 1 -ℤ held_sum net x node))
+
+-- A node that is no pad and may be lowered by a step, since its sum passes 1 by too much, and stays at least 1.
+pub record FallsBy (net : Network) (x : List ℤ) (node : ℕ) (step : ℤ) : Type 0 where
+  pub can : IsLowerable net x
+  pub node_in : node < net.nodes
+  pub none : pad_at net node ≡ None
+  pub some : pos 1 ≤ℤ step
+  pub loose : pos (64 * (degree net.resistors node + 1)) <ℤ (held_sum net x node -ℤ pos 1)
+  pub room : (y : ℕ → ℤ) → IsMovedAt net.nodes node (neg_ℤ step) (entry_of x) y → (outflow held_rule net.resistors (entry_of x) node -ℤ (held_sum net x node -ℤ pos 1)) ≤ℤ outflow held_rule net.resistors y node
+
 module _ (net : Network) (wf : IsNetwork net) where
   -- ---- raising
   pub raisable_values : (x : List ℤ) → IsRaisable net x → All (IsInLimit value_limit) x
@@ -50,8 +68,7 @@ module _ (net : Network) (wf : IsNetwork net) where
     roof = (can.roof.0, can.roof.1, a.below can.roof.0 can.roof.1 can.roof.2, can.roof.3);
   }
 
-  module _ (x : List ℤ) (can : IsRaisable net x) (node : ℕ) (l : node < net.nodes) (none : pad_at net node ≡ None) (step : ℤ) (some : pos 1 ≤ℤ step) (short : held_sum net x node <ℤ pos 1)
-      (room : (e : ℤ) (y : ℕ → ℤ) → pos 0 ≤ℤ e → e <ℤ step → IsMovedAt net.nodes node e (entry_of x) y → outflow held_rule net.resistors y node <ℤ (outflow held_rule net.resistors (entry_of x) node +ℤ (pos 1 -ℤ held_sum net x node))) where
+  module _ (x : List ℤ) (node : ℕ) (step : ℤ) (by : RisesBy net x node step) where
     abbrev raised : List ℤ
     raised = set x node (entry_of x node +ℤ step)
 
@@ -59,24 +76,24 @@ module _ (net : Network) (wf : IsNetwork net) where
     almost = entry_of (set x node (entry_of x node +ℤ (step -ℤ pos 1)))
 
     to_raised : IsMovedAt net.nodes node step (entry_of x) (entry_of raised)
-    to_raised = moved_is net.nodes x node step can.size l
+    to_raised = moved_is net.nodes x node step by.can.size by.node_in
 
     to_almost : IsMovedAt net.nodes node (step -ℤ pos 1) (entry_of x) almost
-    to_almost = moved_is net.nodes x node (step -ℤ pos 1) can.size l
+    to_almost = moved_is net.nodes x node (step -ℤ pos 1) by.can.size by.node_in
 
     -- Raised by all but one unit, the node's sum is still below 1, so one unit more is below each list that satisfies the half.
     under : (z : ℕ → ℤ) → HighHoldsBy held_rule net z → ((i : ℕ) → i < net.nodes → entry_of x i ≤ℤ z i) → (entry_of x node +ℤ step) ≤ℤ z node
     under z holds over =
-        let less = room (step -ℤ pos 1) almost (omega (arith, ints, some)) (omega (arith, ints)) to_almost in
-        let h = raise_below held_rule held_is net wf almost z node holds (λ j m ne. omega (arith, ints, to_almost.others j m ne, over j m)) l none (omega (arith, ints, less)) in
+        let less = by.room (step -ℤ pos 1) almost (omega (arith, ints, by.some)) (omega (arith, ints)) to_almost in
+        let h = raise_below held_rule held_is net wf almost z node holds (λ j m ne. omega (arith, ints, to_almost.others j m ne, over j m)) by.node_in by.none (omega (arith, ints, less)) in
         omega (arith, ints, h, to_almost.moved)
 
     pub raised_is : IsRaising net x raised
     raised_is = record {
       size = length-set x node (entry_of x node +ℤ step);
-      pads = λ i v m e. to_raised.others i m (pad_is_other held_rule held_is net wf node i v none e);
+      pads = λ i v m e. to_raised.others i m (pad_is_other held_rule held_is net wf node i v by.none e);
       above = λ i m. elim (cases_eq i node) [
-        | inl e ↦ omega (arith, ints, to_raised.moved, ap (entry_of raised) e, ap (entry_of x) e, some)
+        | inl e ↦ omega (arith, ints, to_raised.moved, ap (entry_of raised) e, ap (entry_of x) e, by.some)
         | inr ne ↦ omega (arith, ints, to_raised.others i m ne)
       ];
       below = λ z holds over i m. elim (cases_eq i node) [
@@ -87,9 +104,9 @@ module _ (net : Network) (wf : IsNetwork net) where
 
     pub raised_room : rise_room raised < rise_room x
     raised_room =
-        let top = under can.roof.0 can.roof.1 can.roof.2 in
-        let most = can.roof.3 node l in
-        room_falls (λ v. unsigned_abs (pos value_limit -ℤ v)) x node (entry_of x node +ℤ step) (omega (arith, can.size, l)) (omega (arith, ints, top, most, some))
+        let top = under by.can.roof.0 by.can.roof.1 by.can.roof.2 in
+        let most = by.can.roof.3 node by.node_in in
+        room_falls (λ v. unsigned_abs (pos value_limit -ℤ v)) x node (entry_of x node +ℤ step) (omega (arith, by.can.size, by.node_in)) (omega (arith, ints, top, most, by.some))
 
   -- ---- lowering
   pub lowerable_values : (x : List ℤ) → IsLowerable net x → All (IsInLimit value_limit) x
@@ -115,35 +132,34 @@ module _ (net : Network) (wf : IsNetwork net) where
     floor = can.floor;
   }
 
-  module _ (x : List ℤ) (can : IsLowerable net x) (node : ℕ) (l : node < net.nodes) (none : pad_at net node ≡ None) (step : ℤ) (some : pos 1 ≤ℤ step) (loose : pos (64 * (degree net.resistors node + 1)) <ℤ (held_sum net x node -ℤ pos 1))
-      (room : (y : ℕ → ℤ) → IsMovedAt net.nodes node (neg_ℤ step) (entry_of x) y → (outflow held_rule net.resistors (entry_of x) node -ℤ (held_sum net x node -ℤ pos 1)) ≤ℤ outflow held_rule net.resistors y node) where
+  module _ (x : List ℤ) (node : ℕ) (step : ℤ) (by : FallsBy net x node step) where
     abbrev lowered : List ℤ
     lowered = set x node (entry_of x node -ℤ step)
 
     to_lowered : IsMovedAt net.nodes node (neg_ℤ step) (entry_of x) (entry_of lowered)
     to_lowered = record {
-      moved = omega (arith, ints, get_or-set_same x node (entry_of x node -ℤ step) (pos 0) (omega (arith, can.size, l)));
+      moved = omega (arith, ints, get_or-set_same x node (entry_of x node -ℤ step) (pos 0) (omega (arith, by.can.size, by.node_in)));
       others = λ j m ne. get_or-set_other x node j (entry_of x node -ℤ step) (pos 0) ne;
     }
 
     lowered_holds : HighHoldsBy held_rule net (entry_of lowered)
     lowered_holds =
-        let least = room (entry_of lowered) to_lowered in
-        lower_keeps held_rule held_is net wf (entry_of x) (entry_of lowered) node can.holds none to_lowered.others (omega (arith, ints, to_lowered.moved, some)) (omega (arith, ints, least))
+        let least = by.room (entry_of lowered) to_lowered in
+        lower_keeps held_rule held_is net wf (entry_of x) (entry_of lowered) node by.can.holds by.none to_lowered.others (omega (arith, ints, to_lowered.moved, by.some)) (omega (arith, ints, least))
 
     pub lowered_is : IsLowering net x lowered
     lowered_is = record {
       size = length-set x node (entry_of x node -ℤ step);
-      pads = λ i v m e. to_lowered.others i m (pad_is_other held_rule held_is net wf node i v none e);
+      pads = λ i v m e. to_lowered.others i m (pad_is_other held_rule held_is net wf node i v by.none e);
       below = λ i m. elim (cases_eq i node) [
-        | inl e ↦ omega (arith, ints, to_lowered.moved, ap (entry_of lowered) e, ap (entry_of x) e, some)
+        | inl e ↦ omega (arith, ints, to_lowered.moved, ap (entry_of lowered) e, ap (entry_of x) e, by.some)
         | inr ne ↦ omega (arith, ints, to_lowered.others i m ne)
       ];
       holds = lowered_holds;
-      unmoved = λ trim. absurd (omega (arith, ints, trim node l none, loose));
+      unmoved = λ trim. absurd (omega (arith, ints, trim node by.node_in by.none, by.loose));
     }
 
     pub lowered_room : fall_room lowered < fall_room x
     lowered_room =
-        let least = can.floor (entry_of lowered) lowered_holds node l in
-        room_falls (λ v. unsigned_abs (v +ℤ pos value_limit)) x node (entry_of x node -ℤ step) (omega (arith, can.size, l)) (omega (arith, ints, least, to_lowered.moved, some))
+        let least = by.can.floor (entry_of lowered) lowered_holds node by.node_in in
+        room_falls (λ v. unsigned_abs (v +ℤ pos value_limit)) x node (entry_of x node -ℤ step) (omega (arith, by.can.size, by.node_in)) (omega (arith, ints, least, to_lowered.moved, by.some))

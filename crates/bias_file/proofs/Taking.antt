@@ -8,18 +8,19 @@ use Rattle.bias_file.specs.declared.sort.Sort.{Sort}
 use Rattle.bias_file.specs.declared.sort.Sort.TheVariants.{Cell, Instance}
 use Rattle.bias_file.specs.Sort.{sort_of, the, number_of, all_sorts, listed}
 use Rattle.bias_file.specs.Rule.{has_value, has_range, has_place, name_on, is_line}
-use Rattle.bias_file.specs.declared.record.Supply.{Supply}
-use Rattle.bias_file.specs.declared.record.DropLimit.{DropLimit}
 use Rattle.bias_file.specs.declared.record.PadAt.{PadAt}
 use Rattle.bias_file.specs.declared.record.Amps.{Amps}
 use Rattle.bias_file.specs.Section.{section_of, section_after}
 use Rattle.bias_file.specs.Fault.{names_of}
 use Rattle.std.proofs.lemmas.Int.{to_z-of_z, fits_signed_from_abs}
 use Rattle.bias_file.specs.Format.{format}
-use Rattle.bias_file.specs.inside.Held.{HoldsLines, Takes}
+use Rattle.bias_file.specs.declared.held.NetVolts.{NetVolts}
+use Rattle.bias_file.specs.inside.Held.{HoldsLines, Takes, FindsVolts}
 use Rattle.entry_list.specs.Named.{NamedList}
 use Rattle.std.specs.declared.alloc.AllocError.{AllocError}
 use Rattle.entry_list.specs.Laws.{named-added, named-kept}
+use Rattle.number_place.specs.declared.place.NumberPlace.{NumberPlace}
+use Rattle.number_place.specs.Place.{IsNumberAt}
 use Rattle.reading.specs.Grammar.{NoneShows}
 use Rattle.reading.specs.Reading.{IsFine}
 use Rattle.reading.specs.declared.word.Word.{Word}
@@ -129,31 +130,24 @@ begun_with word sort h = number_same sort word h
 
 -- ## numbers as the machine keeps them
 
-pub kept_128 : (v : ℤ) → unsigned_abs v ≤ 10 ^ 25 → to_z w128 (of_z w128 v) ≡ v
+pub kept_128 : (v : ℤ) → unsigned_abs v ≤ 10 ^ 37 → to_z w128 (of_z w128 v) ≡ v
 kept_128 v h = to_z-of_z w128 v (fits_signed_from_abs w128 v (omega arith))
 
 pub kept_64 : (v : ℤ) → unsigned_abs v ≤ 10 ^ 18 → to_z w64 (of_z w64 v) ≡ v
 kept_64 v h = to_z-of_z w64 v (fits_signed_from_abs w64 v (omega arith))
 
+pub number_kept : (place : NumberPlace) (text : List ℕ) (v : ℤ) → place.limit ≤ 10 ^ 37 → IsNumberAt place text (Ok v) → to_z w128 (of_z w128 v) ≡ v
+number_kept place text v limit is =
+    let within : unsigned_abs v ≤ place.limit = is.1.2.within in
+    kept_128 v (omega (arith, limit, within))
+
 -- ## entries
-
-abbrev the_supply : Supply → Supply
-the_supply a = a
-
-abbrev the_limit : DropLimit → DropLimit
-the_limit a = a
 
 abbrev the_amps : Amps → Amps
 the_amps a = a
 
 abbrev the_pad : PadAt → PadAt
 the_pad a = a
-
-pub supply_is : (line : ℕ) (a b : List ℕ) (v w : ℤ) → a ≡ b → v ≡ w → the_supply (record { line = line; net = a; volts = v }) ≡ record { line = line; net = b; volts = w }
-supply_is line a b v w e f = ap (λ z. the_supply (record { line = line; net = z; volts = v })) e ∙ ap (λ z. the_supply (record { line = line; net = b; volts = z })) f
-
-pub limit_is : (line : ℕ) (a b : List ℕ) (v w : ℤ) → a ≡ b → v ≡ w → the_limit (record { line = line; net = a; volts = v }) ≡ record { line = line; net = b; volts = w }
-limit_is line a b v w e f = ap (λ z. the_limit (record { line = line; net = z; volts = v })) e ∙ ap (λ z. the_limit (record { line = line; net = b; volts = z })) f
 
 pub amps_is : (line : ℕ) (a b : List ℕ) (v w x y : ℤ) → a ≡ b → v ≡ w → x ≡ y → the_amps (record { line = line; name = a; low = v; high = x }) ≡ record { line = line; name = b; low = w; high = y }
 amps_is line a b v w x y e f g =
@@ -164,6 +158,28 @@ pub pad_is : (line : ℕ) (a b m n : List ℕ) (v w x y : ℤ) → a ≡ b → m
 pad_is line a b m n v w x y e f g h =
     ap (λ z. the_pad (record { line = line; net = z; layer = m; x = v; y = x })) e ∙ ap (λ z. the_pad (record { line = line; net = b; layer = z; x = v; y = x })) f
     ∙ ap (λ z. the_pad (record { line = line; net = b; layer = n; x = z; y = x })) g ∙ ap (λ z. the_pad (record { line = line; net = b; layer = n; x = w; y = z })) h
+
+-- ## lines of volts
+
+has_second : (b c : Bool) → (b && c) ≡ true → c ≡ true
+has_second true c h = h
+has_second false c h = absurd (let t : false ≡ true = h in cc)
+
+-- A line of volts is taken with the entry that is made of it.
+pub volts_taken : {E : Type 0} (says : List Token → E → Type 0) (make : ℕ → List ℕ → ℤ → E) (word : Sort) (place : NumberPlace) (old new : NamedList E) (unit : List Token) (found : NetVolts) (name : List ℕ) (r : Result (Unit {0}) AllocError) →
+    place.limit ≤ 10 ^ 37 → has_value word ≡ true → FindsVolts word place unit (Some found) →
+    ((first net value stop : Token) (v : ℤ) → IsNumberAt place value.text (Ok v) → says (first ∷ net ∷ value ∷ stop ∷ []) (make first.place.line net.text v)) →
+    name ≡ found.net.now → OnOk r (TakesName old.names new.names found.net.now) →
+    OnOk r (new.entries ≡ old.entries ++ make found.line name (to_z w128 (of_z w128 found.volts)) ∷ []) →
+    OnOk r (Takes (HoldsLines says word old) (HoldsLines says word new) unit)
+volts_taken says make word place old new (first ∷ net ∷ value ∷ stop ∷ []) found name r limit gives h said e taken entries =
+    let kept = to_z w128 (of_z w128 found.volts) in
+    let made = ap (λ z. make z name kept) h.1.0 ∙ ap (λ z. make first.place.line z kept) (e ∙ h.1.1)
+    ∙ ap (λ z. make first.place.line net.text z) (number_kept place value.text found.volts limit h.1.2) in
+    line_taken says word old new first net (value ∷ stop ∷ []) (make found.line name kept) r (begun_with word _ (has_second _ _ h.0)) gives h.0
+    (subst (λ z. says (first ∷ net ∷ value ∷ stop ∷ []) z) (sym made) (said first net value stop found.volts h.1.2))
+    (subst (λ z. OnOk r (TakesName old.names new.names z)) h.1.1 taken) entries
+volts_taken says make word place old new unit found name r limit gives h said e taken entries = absurd h.1
 
 -- ## sections
 

@@ -2,21 +2,22 @@
 //!
 //! A number of a whole unit has shown no fault, so that it can be read. Where it could not, the answer is want of
 //! memory, which no clause ties to anything; it never comes.
-ghost use Rattle.std.specs.Prelude.{[], IfOk, OnOk, ◌≡◌, true, map};
+ghost use Rattle.std.specs.Prelude.{[], IfOk, OnOk, ◌≡◌, true, false, map};
 ghost use Rattle.entry_list.specs.InTurn.{InTurn};
+ghost use Rattle.number_place.specs.Place.{CanRead};
 ghost use Rattle.reading.specs.Word.{token};
 ghost use Rattle.bias_file.specs.declared.sort.Sort.TheVariants as sorts;
-ghost use Rattle.bias_file.specs.Rule.{lines, has_range};
+ghost use Rattle.bias_file.specs.Rule.{lines, has_value, has_range};
 ghost use Rattle.bias_file.specs.Sort.{the, sort_of};
 ghost use Rattle.bias_file.specs.Record.{SaysSupply, SaysDropLimit, SaysAmps, SaysPad};
-ghost use Rattle.bias_file.specs.inside.Held.{HoldsLines, HoldsLists, Holds, Takes};
+ghost use Rattle.bias_file.specs.inside.Held.{HoldsLines, HoldsLists, Holds, Takes, FindsVolts};
 
 use crate::number::{AMPERES, DROP_VOLTS, MICROMETRES, VOLTS};
 use crate::record::{Amps, DropLimit, PadAt, Supply};
 use crate::section::Section;
 use crate::sort::{Sort, sort_of};
 use entry_list::NamedEntries;
-use number_place::{number_at, small_number_at};
+use number_place::{NumberPlace, number_at, small_number_at};
 use outside::Name;
 use reading::{Numbered, Word};
 use std::alloc::{AllocError, Global};
@@ -65,6 +66,49 @@ impl<'a> Held<'a> {
     }
 }
 
+/// Whether the line begins with the word of this sort.
+fn begins(first: &Word<'_>, word: Sort) -> bool
+    ensures { result ≡ the word (sort_of (token first.now)) }
+{
+    sort_of(first).number() == word.number()
+}
+
+/// A line `KEYWORD NET V`, taken apart.
+struct NetVolts<'a> {
+    /// The number of the line, from 1.
+    line: u64,
+    net: &'a [u8],
+    /// The volts in yV.
+    volts: i128,
+}
+
+/// A unit taken apart, if it is the line `KEYWORD NET V` with this first word.
+fn net_volts<'a>(
+    word: Sort,
+    place: NumberPlace,
+    unit: &[Word<'a>],
+) -> Result<Option<NetVolts<'a>>, AllocError>
+    requires can_read { CanRead place }
+    requires value { has_value word ≡ true }
+    requires no_range { has_range word ≡ false }
+    ensures { IfOk result (λ found. FindsVolts word place (map token unit.now) found) }
+{
+    let [first, net, value, _] = unit else {
+        return Ok(None);
+    };
+    if !begins(first, word) {
+        return Ok(None);
+    }
+    let Ok(volts) = number_at(place, value.text) else {
+        return Err(AllocError);
+    };
+    Ok(Some(NetVolts {
+        line: first.place.line,
+        net: net.text,
+        volts,
+    }))
+}
+
 /// What a unit says if it is `supply NET V`.
 pub(crate) fn take_supply<'a>(
     supplies: &mut NamedEntries<'a, Supply>,
@@ -74,21 +118,15 @@ pub(crate) fn take_supply<'a>(
     ensures { OnOk result (Takes (HoldsLines SaysSupply sorts.Supply supplies.old)
         (HoldsLines SaysSupply sorts.Supply supplies.new) (map token unit.now)) }
 {
-    let [first, net, value, _] = unit else {
+    let Some(NetVolts { line, net, volts }) = net_volts(Sort::Supply, VOLTS, unit)? else {
         return Ok(());
-    };
-    let Sort::Supply = sort_of(first) else {
-        return Ok(());
-    };
-    let Ok(volts) = number_at(VOLTS, value.text) else {
-        return Err(AllocError);
     };
     let supply = Supply {
-        line: first.place.line,
-        net: Name::new(alloc, net.text)?,
+        line,
+        net: Name::new(alloc, net)?,
         volts,
     };
-    supplies.add(net.text, supply)
+    supplies.add(net, supply)
 }
 
 /// What a unit says if it is `droplimit NET V`.
@@ -100,21 +138,15 @@ pub(crate) fn take_drop<'a>(
     ensures { OnOk result (Takes (HoldsLines SaysDropLimit sorts.DropLimit drops.old)
         (HoldsLines SaysDropLimit sorts.DropLimit drops.new) (map token unit.now)) }
 {
-    let [first, net, value, _] = unit else {
+    let Some(NetVolts { line, net, volts }) = net_volts(Sort::DropLimit, DROP_VOLTS, unit)? else {
         return Ok(());
-    };
-    let Sort::DropLimit = sort_of(first) else {
-        return Ok(());
-    };
-    let Ok(volts) = number_at(DROP_VOLTS, value.text) else {
-        return Err(AllocError);
     };
     let limit = DropLimit {
-        line: first.place.line,
-        net: Name::new(alloc, net.text)?,
+        line,
+        net: Name::new(alloc, net)?,
         volts,
     };
-    drops.add(net.text, limit)
+    drops.add(net, limit)
 }
 
 /// What a unit says if it is `pad NET LAYER x y`.
@@ -146,14 +178,6 @@ pub(crate) fn take_pad(
         y,
     })?;
     Ok(())
-}
-
-/// Whether the line begins with the word of this sort, `cell` or `instance`.
-fn begins(first: &Word<'_>, word: Sort) -> bool
-    requires { has_range word ≡ true }
-    ensures { result ≡ the word (sort_of (token first.now)) }
-{
-    sort_of(first).number() == word.number()
 }
 
 /// What a unit says if it is `cell MACRO I` or `instance NAME I`, by its first word.

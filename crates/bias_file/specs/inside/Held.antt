@@ -1,17 +1,20 @@
 -- What the reader holds after whole lines.
-use Rattle.std.specs.Prelude.{◌≡◌, List, [], ◌∷◌, ◌++◌}
+use Rattle.std.specs.Prelude.{◌≡◌, true, false, List, [], ◌∷◌, ◌++◌, Option, None, Some, Ok}
 use Rattle.entry_list.specs.InTurn.{InTurn}
 use Rattle.entry_list.specs.Named.{NamedList, HoldsNamed}
 use Rattle.reading.specs.Grammar.{NoneShows}
 use Rattle.reading.specs.Word.{Token}
 use Rattle.bias_file.specs.declared.held.Held.{Held}
 use Rattle.bias_file.specs.declared.held.Lists.{Lists}
+use Rattle.bias_file.specs.declared.held.NetVolts.{NetVolts}
 use Rattle.bias_file.specs.declared.sort.Sort.{Sort}
 use Rattle.bias_file.specs.declared.sort.Sort.TheVariants as sorts
-use Rattle.bias_file.specs.Rule.{lines, name_on}
+use Rattle.bias_file.specs.Rule.{is_line, lines, name_on}
 use Rattle.bias_file.specs.Section.{section_of}
 use Rattle.bias_file.specs.Record.{SaysSupply, SaysDropLimit, SaysAmps, SaysPad}
 use Rattle.bias_file.specs.Format.{format}
+use Rattle.number_place.specs.declared.place.NumberPlace.{NumberPlace}
+use Rattle.number_place.specs.Place.{IsNumberAt}
 
 -- What the lines with this first word say, and their names.
 abbrev pub HoldsLines : {E : Type 0} → (List Token → E → Type 0) → Sort → NamedList E → List (List Token) → Type 0
@@ -32,3 +35,14 @@ pub record Holds (units : List (List Token)) (held : Held) : Type 0 where
 -- What was held after some units leads to what is held after one more, which has shown no fault.
 abbrev pub Takes : (List (List Token) → Type 0) → (List (List Token) → Type 0) → List Token → Type 0
 Takes old new unit = (units : List (List Token)) → NoneShows format units [] unit → old units → new (units ++ unit ∷ [])
+
+-- `KEYWORD NET V`: the number of the line, the net and the volts.
+abbrev pub SaysVolts : NumberPlace → List Token → NetVolts → Type 0
+SaysVolts place (first ∷ net ∷ value ∷ stop ∷ []) found =
+    (found.line ≡ first.place.line) × (found.net.now ≡ net.text) × IsNumberAt place value.text (Ok found.volts)
+SaysVolts place _ found = ⊥
+
+-- What a unit says if it is a line with this first word; else nothing.
+abbrev pub FindsVolts : Sort → NumberPlace → List Token → Option NetVolts → Type 0
+FindsVolts word place unit None = is_line word unit ≡ false
+FindsVolts word place unit (Some found) = (is_line word unit ≡ true) × SaysVolts place unit found

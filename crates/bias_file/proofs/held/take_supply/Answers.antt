@@ -1,21 +1,15 @@
-use Rattle.std.proofs.Common.{◌≡◌, [], ◌∷◌, OnOk, map, get_or, refl, sym, ◌∙◌, ap, subst}
+use Rattle.std.proofs.Common.{map, refl, subst, arith}
 use Rattle.bias_file.specs.declared.sort.Sort.TheVariants.{Supply}
-use Rattle.bias_file.specs.Sort.{the, sort_of}
 use Rattle.bias_file.specs.Number.{volts}
 use Rattle.bias_file.specs.Record.{SaysSupply}
-use Rattle.bias_file.specs.inside.Held.{HoldsLines, Takes}
-use Rattle.bias_file.proofs.Taking.{no_word, four_words, line_taken, kept_128, supply_is}
-use Rattle.number_place.specs.Place.{IsNumberAt}
+use Rattle.bias_file.specs.inside.Held.{FindsVolts}
+use Rattle.bias_file.proofs.Taking.{volts_taken}
 use Rattle.reading.specs.Word.{token}
 use Rattle.bias_file.proofs.held.take_supply.Goals as goal
 
 pub returns : goal.returns
 returns c =
-    let xs = c.args.unit.now in
-    let first : sort_of (token (get_or xs 0 no_word)) ≡ Supply = sym c.sort_of.ensures ∙ c.in-Supply.is in
-    let is = subst (λ z. IsNumberAt volts (get_or xs 2 no_word).text.now z) c.in-Ok.is c.number_at.ensures.answer in
-    subst (λ z. OnOk c.add.result (Takes (HoldsLines SaysSupply Supply c.args.supplies.now) (HoldsLines SaysSupply Supply c.add.new.self) (map token z)))
-    (sym (four_words xs c.in-len4.len_at_least c.in-len4.len_below))
-    (line_taken SaysSupply Supply c.args.supplies.now c.add.new.self (token (get_or xs 0 no_word)) (token (get_or xs 1 no_word))
-    (token (get_or xs 2 no_word) ∷ token (get_or xs 3 no_word) ∷ []) _ c.add.result first refl (ap (the Supply) first)
-    (c.in-Ok.volts, is, supply_is _ _ _ _ _ c.in_ok-new.ensures (kept_128 c.in-Ok.volts is.1.2.within)) c.add.ensures.names c.add.ensures.entries)
+    let unit = map token c.args.unit.now in
+    volts_taken SaysSupply (λ line net v. record { line = line; net = net; volts = v }) Supply volts c.args.supplies.now c.add.new.self unit c.in-Some.field-0 _ c.add.result
+    (omega arith) refl (subst (λ z. FindsVolts Supply volts unit z) c.in-Some.is c.in_ok-line.ensures) (λ first net value stop v is. (v, is, refl))
+    c.in_ok-new.ensures c.add.ensures.names c.add.ensures.entries

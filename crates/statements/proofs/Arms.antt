@@ -8,16 +8,18 @@ use Rattle.reading.specs.Reader.{GoesOn, Closes, Faulty}
 use Rattle.statements.specs.declared.by_hand.Seen.TheVariants.{Nothing, Keyword, Name, Number}
 use Rattle.statements.specs.declared.sort.Sort.{Sort}
 use Rattle.statements.specs.declared.sort.Sort.TheVariants.{Set, Semicolon, TextEnd}
-use Rattle.statements.specs.declared.grammar.Kind.TheVariants.{NotWhole}
-use Rattle.statements.specs.Law.{word_of, ends}
-use Rattle.statements.specs.Sorts.{sort_of}
-use Rattle.statements.specs.Rules.{is_set, is_name, is_number, is_semicolon, is_end, unit}
-use Rattle.statements.specs.Statements.{is_whole, statements_format, count_of}
-use Rattle.statements.specs.ByHand.{IsSeen, Stands}
+use Rattle.statements.specs.declared.fault.Kind.TheVariants.{NotWhole}
+use Rattle.statements.proofs.Law.{word_of, ends}
+use Rattle.statements.specs.Sort.{sort_of}
+use Rattle.statements.specs.Rule.{is_set, is_name, is_number, is_semicolon, is_end, unit}
+use Rattle.statements.specs.Fault.{is_whole}
+use Rattle.statements.specs.Record.{count_of}
+use Rattle.statements.specs.Format.{statements_format}
+use Rattle.statements.specs.inside.ByHand.{IsSeen, Stands}
 use Rattle.statements.proofs.Counts.{count-more}
 use Rattle.statements.proofs.WholeUnit.{whole-to, whole-from}
 
--- words that complete a statement
+-- Words that complete a statement.
 abbrev some_name : Token
 some_name = word_of Bare (codes "name")
 

@@ -1,3 +1,4 @@
 mod Counts
 mod WholeUnit
+mod Law
 mod Arms

@@ -2,10 +2,10 @@
 use Rattle.std.proofs.Common.{◌≡◌, true, List, [], ◌∷◌, inl, inr, refl, sym, subst}
 use Rattle.reading.specs.Pattern.{Matches}
 use Rattle.reading.specs.Word.{Token}
-use Rattle.statements.specs.Sorts.{sort_of}
-use Rattle.statements.specs.Rules.{is_set, is_name, is_number, is_semicolon, is_end, statement, unit}
+use Rattle.statements.specs.Sort.{sort_of}
+use Rattle.statements.specs.Rule.{is_set, is_name, is_number, is_semicolon, is_end, statement, unit}
 
--- a statement, or the end of the text
+-- A statement, or the end of the text.
 abbrev pub IsWholeUnit : List Token → Type 0
 IsWholeUnit (a ∷ []) = is_end (sort_of a) ≡ true
 IsWholeUnit (a ∷ b ∷ c ∷ d ∷ []) =

@@ -1,6 +1,7 @@
-pub mod Sorts
-pub mod Numbers
-pub mod Rules
-pub mod Statements
-pub mod Law
-pub mod ByHand
+pub mod Sort
+pub mod Section
+pub mod Rule
+pub mod Fault
+pub mod Record
+pub mod Format
+pub mod inside

@@ -2,11 +2,12 @@
 ghost use Rattle.std.specs.Prelude.{◌≡◌, Ok};
 ghost use Rattle.text_lex.specs.declared.word.Mode.TheVariants.{LefDef};
 ghost use Rattle.reading.specs.Outcome.{Reads};
-ghost use Rattle.statements.specs.Statements.{statements_format, count_of};
-ghost use Rattle.statements.specs.ByHand.{Stands};
+ghost use Rattle.statements.specs.Record.{count_of};
+ghost use Rattle.statements.specs.Format.{statements_format};
+ghost use Rattle.statements.specs.inside.ByHand.{Stands};
 
-use crate::grammar::{Kind, is_whole, sort_of};
-use crate::sort::Sort;
+use crate::fault::{Kind, is_whole};
+use crate::sort::{Sort, sort_of};
 use reading::{Reader, Refusal, Step, Stop, Word, read_text_by_hand};
 use text_lex::Mode;
 
@@ -14,11 +15,11 @@ use text_lex::Mode;
 #[derive(Clone, Copy, Debug, PartialEq, Eq)]
 enum Seen {
     Nothing,
-    /// `SET`
+    /// `SET`.
     Keyword,
-    /// `SET name`
+    /// `SET name`.
     Name,
-    /// `SET name number`
+    /// `SET name number`.
     Number,
 }
 

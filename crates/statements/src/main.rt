@@ -2,15 +2,18 @@
 #![tactic(auto)]
 
 mod by_hand;
-mod count;
-mod grammar;
+mod fault;
+mod format;
+mod read;
+mod record;
 mod rule;
+mod section;
 mod sort;
 
 use by_hand::count_by_hand;
-use count::count_statements;
-use grammar::Kind;
+use fault::Kind;
 use outside::{StdFiles, read_whole};
+use read::count_statements;
 use reading::Refusal;
 use std::alloc::{AllocError, Global};
 use std::process::ExitCode;
@@ -20,7 +23,7 @@ use std::{env, io};
 #[cfg(test)]
 mod tests;
 
-/// A text has at most so many bytes.
+/// The most bytes that a text has.
 const LIMIT: u64 = 1 << 28;
 
 /// The word of the command line with this number, or an empty one.

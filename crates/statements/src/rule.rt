@@ -12,11 +12,11 @@ const NAME: Rule<'static, Sort> = Other(&[Sort::Semicolon, Sort::TextEnd]);
 
 const NUMBER: Rule<'static, Sort> = Other(&[Sort::Semicolon, Sort::Bracket, Sort::TextEnd]);
 
-/// `number ;`
+/// `number ;`.
 const VALUE: Rule<'static, Sort> = Then(&NUMBER, &SEMICOLON);
-/// `name number ;`
+/// `name number ;`.
 const ASSIGNED: Rule<'static, Sort> = Then(&NAME, &VALUE);
-/// `SET name number ;`
+/// `SET name number ;`.
 const STATEMENT: Rule<'static, Sort> = Then(&SET, &ASSIGNED);
 /// A statement or the end of the text.
 pub(crate) const UNIT: Rule<'static, Sort> = Or(&STATEMENT, &END);

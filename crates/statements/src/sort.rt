@@ -1,8 +1,9 @@
-//! The sorts of the words, and the one section.
-ghost use Rattle.statements.specs.Sorts.{number_of, all_sorts, number_of_section, all_sections};
-ghost use Rattle.statements.specs.Numbers.{sorts-listed, few-sorts, sections-listed, few-sections};
+//! The sorts of the words.
+ghost use Rattle.std.specs.Prelude.{◌≡◌};
+ghost use Rattle.reading.specs.Word.{token};
+ghost use Rattle.statements.specs.Sort.{number_of, all_sorts, sort_of_text, sort_of, listed, few};
 
-use reading::Numbered;
+use reading::{Form, Numbered, Word, keyword_or};
 
 /// What a word is, wherever it stands.
 #[derive(Clone, Copy, Debug, PartialEq, Eq)]
@@ -19,12 +20,6 @@ pub enum Sort {
     TextEnd,
 }
 
-/// Where a unit stands: the same may follow everywhere.
-#[derive(Clone, Copy, Debug, PartialEq, Eq)]
-pub enum Section {
-    Statements,
-}
-
 impl Numbered for Sort {
     ghost number = { number_of };
 
@@ -34,21 +29,30 @@ impl Numbered for Sort {
         self as usize
     }
 
-    ghost listed = { sorts-listed };
+    ghost listed = { listed };
 
-    ghost few = { few-sorts };
+    ghost few = { few };
 }
 
-impl Numbered for Section {
-    ghost number = { number_of_section };
+/// The sort of a bare word.
+fn sort_of_text(text: &[u8]) -> Sort
+    ensures { result ≡ sort_of_text text.now }
+{
+    keyword_or!(text;
+        b"SET" => Sort::Set,
+        b";" => Sort::Semicolon,
+        b"(" => Sort::Bracket,
+        b")" => Sort::Bracket;
+        Sort::Other)
+}
 
-    ghost all = { all_sections };
-
-    fn number(self) -> usize {
-        self as usize
+/// The sort of a word, wherever it stands.
+pub(crate) fn sort_of(word: &Word<'_>) -> Sort
+    ensures { result ≡ sort_of (token word.now) }
+{
+    match word.form {
+        Form::Bare => sort_of_text(word.text),
+        Form::End => Sort::TextEnd,
+        _ => Sort::Other,
     }
-
-    ghost listed = { sections-listed };
-
-    ghost few = { few-sections };
 }

@@ -3,8 +3,9 @@ ghost use Rattle.std.specs.Prelude.{[], ◌∷◌, ◌++◌, drop, map, cond, No
 ghost use Rattle.reading.specs.Word.{token, end_at};
 
 use crate::by_hand::count_by_hand;
-use crate::count::count_statements;
-use crate::grammar::{Kind, Statements};
+use crate::fault::Kind;
+use crate::format::Statements;
+use crate::read::count_statements;
 use outside::Place;
 use reading::{Cause, Form, Refusal, Source, Word, read_words};
 use std::alloc::{AllocError, Global};
@@ -62,7 +63,7 @@ fn counts_and_refusals(rt: HostRuntime) -> Result<(), Fail> {
     try_all(&rt, rt.alloc(), TEXTS)
 }
 
-/// Words that stand in a list, and behind them the end of the text.
+/// Words that stand in a list, and after them the end of the text.
 #[derive(Drop)]
 struct Listed<'a> {
     words: &'a [Word<'a>],

@@ -1,9 +1,9 @@
 use Rattle.std.proofs.Common.{◌≡◌, true, subst, sym, ◌∙◌, arith}
 use Rattle.reading.specs.Word.{token}
 use Rattle.reading.specs.Reader.{Closes}
-use Rattle.statements.specs.Rules.{is_name, is_number}
-use Rattle.statements.specs.Statements.{statements_format}
-use Rattle.statements.specs.ByHand.{IsSeen, Stands}
+use Rattle.statements.specs.Rule.{is_name, is_number}
+use Rattle.statements.specs.Format.{statements_format}
+use Rattle.statements.specs.inside.ByHand.{IsSeen, Stands}
 use Rattle.statements.proofs.Arms.{keyword, name, number, fault, statement, end}
 use Rattle.statements.proofs.by_hand.CounterReader.take.Goals as goal
 

@@ -1,6 +1,7 @@
 -- Which words a statement has.
 use Rattle.std.specs.Prelude.{Bool, true, false}
 use Rattle.reading.specs.Pattern.{Pattern, One, Then, Or}
+use Rattle.statements.specs.declared.section.Section.{Section}
 use Rattle.statements.specs.declared.sort.Sort.{Sort}
 use Rattle.statements.specs.declared.sort.Sort.TheVariants.{Set, Semicolon, Bracket, TextEnd}
 
@@ -16,23 +17,27 @@ abbrev pub is_end : Sort → Bool
 is_end TextEnd = true
 is_end sort = false
 
--- any word but `;` and the text's end
+-- Any word but `;` and the text's end.
 abbrev pub is_name : Sort → Bool
 is_name Semicolon = false
 is_name TextEnd = false
 is_name sort = true
 
--- any word but `;`, `(`, `)` and the text's end
+-- Any word but `;`, `(`, `)` and the text's end.
 abbrev pub is_number : Sort → Bool
 is_number Semicolon = false
 is_number Bracket = false
 is_number TextEnd = false
 is_number sort = true
 
--- `SET name number ;`
+-- `SET name number ;`.
 abbrev pub statement : Pattern Sort
 statement = Then (One is_set) (Then (One is_name) (Then (One is_number) (One is_semicolon)))
 
--- a statement or the end of the text
+-- A statement or the end of the text.
 abbrev pub unit : Pattern Sort
 unit = Or statement (One is_end)
+
+-- What may stand in the one section.
+abbrev pub pattern_of : Section → Pattern Sort
+pattern_of section = unit

@@ -2,9 +2,11 @@
 ghost use Rattle.std.specs.Prelude.{◌≡◌, Ok};
 ghost use Rattle.text_lex.specs.declared.word.Mode.TheVariants.{LefDef};
 ghost use Rattle.reading.specs.Outcome.{Reads};
-ghost use Rattle.statements.specs.Statements.{statements_format, count_of};
+ghost use Rattle.statements.specs.Record.{count_of};
+ghost use Rattle.statements.specs.Format.{statements_format};
 
-use crate::grammar::{Kind, Statements};
+use crate::fault::Kind;
+use crate::format::Statements;
 use reading::{Refusal, read_text};
 use std::alloc::Global;
 use text_lex::Mode;

@@ -1,4 +1,4 @@
--- What the format owes.
+-- The laws that the format owes.
 use Rattle.std.specs.Prelude.{codes}
 use Rattle.std.proofs.Common.{◌≡◌, ℕ, Bool, true, List, [], ◌∷◌, ◌+◌, length, refl, inr, ap, arith}
 use Rattle.reading.specs.declared.word.Form.{Form}
@@ -8,19 +8,21 @@ use Rattle.reading.specs.Word.{Token}
 use Rattle.reading.specs.Tests.{HasSamples}
 use Rattle.reading.specs.Grammar.{IsRegular}
 use Rattle.reading.specs.Laws.{IsImmediate, immediate}
-use Rattle.statements.specs.declared.grammar.Kind.{Kind}
+use Rattle.statements.specs.declared.fault.Kind.{Kind}
 use Rattle.statements.specs.declared.sort.Sort.{Sort}
 use Rattle.statements.specs.declared.sort.Sort.TheVariants.{Set, Semicolon, Bracket, Other, TextEnd}
-use Rattle.statements.specs.declared.sort.Section.{Section}
-use Rattle.statements.specs.declared.sort.Section.TheVariants.{Statements}
-use Rattle.statements.specs.Sorts.{all_sorts, sort_of_word, sort_of}
-use Rattle.statements.specs.Statements.{pattern_of, fault_of, statements_format}
+use Rattle.statements.specs.declared.section.Section.{Section}
+use Rattle.statements.specs.declared.section.Section.TheVariants.{Statements}
+use Rattle.statements.specs.Sort.{all_sorts, sort_with, sort_of}
+use Rattle.statements.specs.Rule.{pattern_of}
+use Rattle.statements.specs.Fault.{fault_of}
+use Rattle.statements.specs.Format.{statements_format}
 
--- a word of these bytes
+-- A word of these bytes.
 abbrev pub word_of : Form → List ℕ → Token
 word_of form text = record { text = text; place = record { line = 1; word = 1 }; form = form }
 
--- each sort has words
+-- Each sort has words.
 abbrev pub every : Section → Sort → Bool
 every section sort = true
 
@@ -32,7 +34,7 @@ samples c Other usable = (word_of Bare [], refl)
 samples c TextEnd usable = (word_of End [], refl)
 
 pub ends : (w : Token) → w.form ≡ End → sort_of w ≡ TextEnd
-ends w h = ap (λ form. sort_of_word form w.text) h
+ends w h = ap (λ form. sort_with form w.text) h
 
 last : (part : List Token) (a : Found Kind) → fault_of part a → a.at + 1 ≡ length part
 last (keyword ∷ name ∷ number ∷ []) a h = omega (arith, ap (λ (z : Found Kind). z.at) h.1)

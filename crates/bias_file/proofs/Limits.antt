@@ -14,7 +14,8 @@ use Rattle.bias_file.specs.Number.{volts, drop_volts, amperes, micrometres}
 use Rattle.bias_file.specs.Limits.{KeepsLimits, SupplyKeeps, DropLimitKeeps, PadKeeps, AmpsKeep}
 use Rattle.bias_file.specs.Record.{SaysSupply, SaysDropLimit, SaysAmps, SaysPad}
 use Rattle.bias_file.specs.inside.Held.{HoldsLists}
-use Rattle.entry_list.specs.Laws.{in-turn-all, names-differ}
+use Rattle.entry_list.specs.Laws.{in-turn-all}
+use Rattle.named_entries.specs.Laws.{names-differ}
 use Rattle.number_place.specs.declared.place.NumberPlace.{NumberPlace}
 use Rattle.number_place.specs.Place.{IsNumberAt, HasSign}
 use Rattle.reading.specs.Word.{Token}

@@ -16,9 +16,9 @@ use Rattle.std.proofs.lemmas.Int.{to_z-of_z, fits_signed_from_abs}
 use Rattle.bias_file.specs.Format.{format}
 use Rattle.bias_file.specs.declared.held.NetVolts.{NetVolts}
 use Rattle.bias_file.specs.inside.Held.{HoldsLines, Takes, FindsVolts}
-use Rattle.entry_list.specs.Named.{NamedList}
+use Rattle.named_entries.specs.Named.{NamedList}
 use Rattle.std.specs.declared.alloc.AllocError.{AllocError}
-use Rattle.entry_list.specs.Laws.{named-added, named-kept}
+use Rattle.named_entries.specs.Laws.{named-added, named-kept}
 use Rattle.number_place.specs.declared.place.NumberPlace.{NumberPlace}
 use Rattle.number_place.specs.Place.{IsNumberAt}
 use Rattle.reading.specs.Grammar.{NoneShows}

@@ -16,7 +16,7 @@ use crate::number::{AMPERES, DROP_VOLTS, MICROMETRES, VOLTS};
 use crate::record::{Amps, DropLimit, PadAt, Supply};
 use crate::section::Section;
 use crate::sort::{Sort, sort_of};
-use entry_list::NamedEntries;
+use named_entries::NamedEntries;
 use number_place::{NumberPlace, number_at, small_number_at};
 use outside::Name;
 use reading::{Numbered, Word};

@@ -20,9 +20,8 @@ pub record IsKept (c : Certificate) : Type 0 where
   pub certificate : IsCertificate c.net c.high c.low
   pub tight : IsTight c.net c.high c.low
 
--- What two lists say of the current from end a to end b of a resistor, in femtoamperes: at least what flows where a
--- is as
--- low and b as high as may be, rounded down.
+-- What two lists say of the current from end a to end b of a resistor, in femtoamperes: at least what flows where a is
+-- as low and b as high as may be, rounded down.
 abbrev pub least_current : List ℤ → List ℤ → Resistor → ℤ
 least_current high low r = floor_div (entry_of low r.a -ℤ entry_of high r.b) r.ohms
 

@@ -29,7 +29,8 @@ abbrev pub flow_test : (ℕ → ℤ) → (ℕ → ℤ) → Resistor → Option F
 flow_test high low r =
     let of_high = floor_div (high r.a -ℤ high r.b) r.ohms in
     let of_low = ceil_div (low r.a -ℤ low r.b) r.ohms in
-    or_else (unless (in_limit flow_limit of_high) r.a HighFlow of_high) (unless (in_limit flow_limit of_low) r.a LowFlow of_low)
+    or_else (unless (in_limit flow_limit of_high) r.a HighFlow of_high) (unless
+    (in_limit flow_limit of_low) r.a LowFlow of_low)
 
 -- The test of the sums of a node, or of its entries where a pad stands.
 abbrev pub sum_test : Network → (ℕ → ℤ) → (ℕ → ℤ) → ℕ → Option ℤ → Option Fails

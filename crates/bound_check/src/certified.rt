@@ -19,11 +19,9 @@ pub const NANOAMPERE: i128 = 1_000_000;
 
 /// A network with a tight certificate of it.
 ///
-/// Every solution of Ohm's and Kirchhoff's laws on the network, for every load within its range, lies within the
-/// bounds that
-/// `voltage` and `current` tell, at each node and resistor. No certificate that is made in another way is kept: both
-/// tests
-/// hold of each value of this type.
+/// Every solution of Ohm's and Kirchhoff's laws on the network, for every load within its range, lies within the bounds
+/// that `voltage` and `current` tell, at each node and resistor. No certificate that is made in another way is kept:
+/// both tests hold of each value of this type.
 #[derive(Drop)]
 pub struct Certified {
     net: Net,
@@ -143,8 +141,7 @@ impl Certified {
     }
 
     /// Between which two currents from its end a to its end b a resistor lies in every solution, in nanoamperes and
-    /// rounded
-    /// outward, the lower one first.
+    /// rounded outward, the lower one first.
     pub fn current(&self, resistor: u32) -> (i128, i128)
         requires { resistor < length self.now.net.resistors }
         ensures low { (d : Resistor) → let r = slice_index_or self.now.net.resistors resistor d in

@@ -1,10 +1,8 @@
 //! The test of a certificate: whether two lists of voltages bound every solution of a network, and what it proves of
-//! the
-//! solutions. `Certified` keeps a network with a tight certificate, and tells the bounds that are printed.
+//! the solutions. `Certified` keeps a network with a tight certificate, and tells the bounds that are printed.
 //!
-//! What a network, a solution and a certificate are stands in the `specs/` of `grid_net`. Here stand which failing
-//! test a
-//! refusal names (`Failing`, `Loose`) and what is printed (`Certified`).
+//! What a network, a solution and a certificate are stands in the `specs/` of `grid_net`. Here stand which failing test
+//! a refusal names (`Failing`, `Loose`) and what is printed (`Certified`).
 #![tactic(auto)]
 
 mod certificate;

@@ -340,8 +340,7 @@ fn kept(rt: &(impl AllocGlobal + Abort), high: i128, low: i128) -> Certified {
 }
 
 /// The tightest lists and the loosest tight ones of one resistor print the same digits, and so do all between them,
-/// since a
-/// printed digit goes up with its number.
+/// since a printed digit goes up with its number.
 #[test]
 fn digits_of_one_resistor(rt: HostRuntime) {
     for (high, low) in [

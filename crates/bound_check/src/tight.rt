@@ -104,15 +104,12 @@ fn first_loose_node(net: &Net, high: &[i128], low: &[i128]) -> Option<(u32, i128
     None
 }
 
-/// Whether a certificate is tight: at pads both lists are the pad's voltage, and at other nodes no sum passes what
-/// the test
-/// asks by more than 64 femtoamperes for the node and for each resistor that stands there.
+/// Whether a certificate is tight: at pads both lists are the pad's voltage, and at other nodes no sum passes what the
+/// test asks by more than 64 femtoamperes for the node and for each resistor that stands there.
 ///
 /// If not, the first node that misses it is named with the greater of its two excesses: at a pad of how far the high
-/// entry is
-/// above the pad's voltage and the low entry below it, in yoctovolts; elsewhere of how far the sums pass what is
-/// asked, in
-/// femtoamperes. It takes no memory.
+/// entry is above the pad's voltage and the low entry below it, in yoctovolts; elsewhere of how far the sums pass what
+/// is asked, in femtoamperes. It takes no memory.
 pub fn is_tight(net: &Net, high: &[i128], low: &[i128]) -> Result<(), (u32, i128)>
     requires high_size { length high.now ≡ net.now.nodes }
     requires low_size { length low.now ≡ net.now.nodes }

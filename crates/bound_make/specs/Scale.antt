@@ -1,6 +1,5 @@
 -- The range in which the lists of a certificate of a network are made: from the network's own numbers, each 0 where
--- there
--- is none.
+-- there is none.
 use Rattle.std.specs.Prelude.{◌≡◌, ℕ, ◌<◌, ◌≤◌, ◌+◌, ◌*◌, ◌⊎◌, ℤ, pos, ◌≤ℤ◌, List, All, length, slice_index_or}
 use Rattle.grid_net.specs.declared.part.Resistor.{Resistor}
 use Rattle.grid_net.specs.declared.part.Pad.{Pad}

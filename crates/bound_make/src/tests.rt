@@ -189,8 +189,7 @@ fn chain(rt: &(impl AllocGlobal + Abort), nodes: u32) -> Net {
 }
 
 /// The voltages at which 1 fA leaves each node of a chain but the first, towards the pad, times a sign; every ten
-/// thousandth
-/// node is off by 5 fA.
+/// thousandth node is off by 5 fA.
 fn proposal(rt: &(impl AllocGlobal + Abort), nodes: u32, sign: i128) -> Vec<i128> {
     let mut list = Vec::new(rt.alloc());
     let mut volts = VOLT;

@@ -3,9 +3,6 @@
 
 ghost use Rattle.std.specs.Prelude.{◌≡◌};
 
-mod named;
-
-pub use named::NamedEntries;
 use std::marker::Model;
 
 /// A list of entries, in a record. It is made from a `Vec` and read as a slice.
@@ -30,6 +27,13 @@ impl<T> Entries<T> {
         ensures { result ≡ items.items }
     {
         Entries { items }
+    }
+
+    /// The entries in their order, as a `Vec` again.
+    pub fn into_items(self) -> Vec<T>
+        ensures { result.items ≡ self }
+    {
+        self.items
     }
 
     /// The entries, in their order.

@@ -7,17 +7,6 @@ use std::test::Fail;
 fn a_list_of_two(rt: HostRuntime) -> Result<(), Fail> {
     let entries = Entries::new(vec![in rt.alloc(); 5u64, 7]?);
     assert_eq!(rt; entries.as_slice(), [5u64, 7].as_slice());
-    Ok(())
-}
-
-#[test]
-fn entries_with_names(rt: HostRuntime) -> Result<(), Fail> {
-    let mut named = NamedEntries::new(rt.alloc())?;
-    assert!(rt; !named.contains(b"a"));
-    named.add(b"a", 5u64)?;
-    named.add(b"b", 7u64)?;
-    assert!(rt; named.contains(b"a"));
-    assert!(rt; !named.contains(b""));
-    assert_eq!(rt; named.into_entries().as_slice(), [5u64, 7].as_slice());
+    assert_eq!(rt; entries.into_items().as_slice(), [5u64, 7].as_slice());
     Ok(())
 }

@@ -18,12 +18,12 @@ abbrev pub printed : ℤ → ℕ → List ℕ
 printed value places = minus_text value ++ (decimal (unsigned_abs value / 10 ^ places) ++ places_text
     (unsigned_abs value) places)
 
--- Q is the greatest whole number of units that is not above the value.
+-- q is the greatest whole number of units that is not above the value.
 pub record IsRoundedDown (value : ℤ) (unit : ℕ) (q : ℤ) : Type 0 where
   pub reached : (pos unit *ℤ q) ≤ℤ value
   pub greatest : (r : ℤ) → (pos unit *ℤ r) ≤ℤ value → r ≤ℤ q
 
--- Q is the least whole number of units that is not below the value.
+-- q is the least whole number of units that is not below the value.
 pub record IsRoundedUp (value : ℤ) (unit : ℕ) (q : ℤ) : Type 0 where
   pub reaches : value ≤ℤ (pos unit *ℤ q)
   pub least : (r : ℤ) → value ≤ℤ (pos unit *ℤ r) → q ≤ℤ r

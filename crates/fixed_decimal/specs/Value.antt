@@ -6,22 +6,22 @@ use Rattle.fixed_decimal.specs.declared.error.DecimalError.TheVariants.{NotNumbe
 use Rattle.fixed_decimal.specs.Number.{Number, IsDecimal}
 use Rattle.fixed_decimal.specs.Spice.{IsSpice}
 
--- M is the whole number nearest to n / d, and of two equally near ones the greater: n / d is at least m - 1/2 and below
+-- m is the whole number nearest to n / d, and of two equally near ones the greater: n / d is at least m - 1/2 and below
 -- m + 1/2.
 pub record IsNearest (n d m : ℕ) : Type 0 where
   pub reached : 2 * (m * d) ≤ 2 * n + d
   pub below : 2 * n + d < 2 * ((m + 1) * d)
 
--- M is the number's magnitude in units of 10^-places, rounded to nearest.
+-- m is the number's magnitude in units of 10^-places, rounded to nearest.
 abbrev pub IsMagnitude : Number → ℕ → ℕ → Type 0
 IsMagnitude number places m = IsNearest (number.numerator * 10 ^ places) number.denominator m
 
--- M with the number's sign.
+-- m with the number's sign.
 abbrev pub signed : Bool → ℕ → ℤ
 signed false m = pos m
 signed true m = neg_ℤ (pos m)
 
--- V is the number's value in units of 10^-places, rounded to nearest, halves away from zero.
+-- v is the number's value in units of 10^-places, rounded to nearest, halves away from zero.
 pub record IsValue (number : Number) (places : ℕ) (v : ℤ) : Type 0 where
   pub magnitude : ℕ
   pub nearest : IsMagnitude number places magnitude
@@ -38,7 +38,7 @@ pub record IsAbove (number : Number) (places limit : ℕ) : Type 0 where
   pub nearest : IsMagnitude number places magnitude
   pub above : limit < magnitude
 
--- V is the number's value, which is within the limit, and 0 for 0 alone.
+-- v is the number's value, which is within the limit, and 0 for 0 alone.
 pub record IsWithin (number : Number) (places limit : ℕ) (v : ℤ) : Type 0 where
   pub value : IsValue number places v
   pub within : unsigned_abs v ≤ limit
@@ -52,7 +52,7 @@ StandsFor form text holds = (number : Number) × form text number × holds numbe
 abbrev pub IsSpiceNumber : List ℕ → Type 0
 IsSpiceNumber text = (number : Number) × IsSpice text number
 
--- V is the value of the text at so many places.
+-- v is the value of the text at so many places.
 abbrev pub DecimalValue : ℕ → List ℕ → ℤ → Type 0
 DecimalValue places text v = StandsFor IsDecimal text (λ number. IsValue number places v)
 

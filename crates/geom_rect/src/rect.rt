@@ -5,9 +5,9 @@ ghost use Rattle.geom_rect.specs.inside.Rect.{ShareLength, ShareSquare};
 /// No coordinate of a drawing is farther from 0 than this many units.
 pub const GREATEST_COORDINATE: i64 = 2_305_843_009_213_693_952;
 
-/// A rectangle from (`x1`, `y1`) up to (`x2`, `y2`), with `x1` at most `x2` and `y1` at most `y2`.
-/// Coordinates are units of a drawing, at most `GREATEST_COORDINATE` from 0. A rectangle that is out of order has no point.
-/// Rectangles are compared by `x1`, `y1`, `x2` and `y2`, in turn.
+/// A rectangle from (`x1`, `y1`) up to (`x2`, `y2`), with `x1` at most `x2` and `y1` at most `y2`. Coordinates are
+/// units of a drawing, at most `GREATEST_COORDINATE` from 0. A rectangle that is out of order has no point. Rectangles
+/// are compared by `x1`, `y1`, `x2` and `y2`, in turn.
 #[derive(Clone, Copy, Debug, PartialEq, Eq, PartialOrd, Ord)]
 pub struct Rect {
     pub x1: i64,

@@ -11,3 +11,8 @@ pub record TwoLists : Type 0 where
   pub x : List ℤ
   pub w : List ℤ
   pub proposals : ℕ
+
+-- A solver that writes one number everywhere, and how many proposals it was asked for.
+pub record OneNumber : Type 0 where
+  pub number : ℤ
+  pub proposals : ℕ

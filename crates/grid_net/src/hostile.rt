@@ -1,6 +1,5 @@
 //! Solvers that try to do harm, for the tests of whatever takes a solver. They tell no lists. Contracts see of each
-//! how many
-//! proposals it was asked for.
+//! how many proposals it was asked for, and of the one that writes one number which number that is.
 
 ghost use Rattle.std.specs.Prelude.{◌≡◌, ℕ, None, length};
 
@@ -17,17 +16,17 @@ pub struct Everywhere {
 }
 
 impl Model for Everywhere {
-    ghost use Rattle.std.specs.Prelude.{ℕ};
+    ghost use Rattle.grid_net.specs.Solver.{OneNumber};
 
-    ghost Value = { ℕ };
+    ghost Value = { OneNumber };
 
-    ghost view = { λ solver. solver.proposals };
+    ghost view = { λ solver. record { number = solver.number; proposals = solver.proposals } };
 }
 
 impl Everywhere {
     /// A solver that proposes this number everywhere.
     pub fn new(number: i128) -> Everywhere
-        ensures { result ≡ 0 }
+        ensures { result ≡ record { number = number; proposals = 0 } }
     {
         Everywhere {
             number,
@@ -39,7 +38,7 @@ impl Everywhere {
 impl Solver for Everywhere {
     ghost told = { λ _. None };
 
-    ghost proposals = { λ solver. solver };
+    ghost proposals = { λ solver. solver.proposals };
 
     fn propose(&mut self, _net: &Net, _work: &mut Region, x: &mut [i128], w: &mut [i128]) {
         self.proposals = self.proposals.saturating_add(1);

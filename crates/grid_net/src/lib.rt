@@ -1,12 +1,9 @@
 //! A power grid's network of resistors, pads and loads: which lists make one, what it holds, how far its nodes are
-//! from its
-//! pads, and what a solution and a certificate of it are.
+//! from its pads, and what a solution and a certificate of it are.
 //!
 //! The definitions stand in `specs/`: `Network` and its sums, `Building` (which network the lists make, and what
-//! refuses
-//! them), `Level`, `Solution` (Ohm's law and Kirchhoff's current law), `Certificate`, and `Solver`. What only the
-//! code's own
-//! proofs speak of stands in `specs/inside/`.
+//! refuses them), `Level`, `Solution` (Ohm's law and Kirchhoff's current law), `Certificate`, and `Solver`. What only
+//! the code's own proofs speak of stands in `specs/inside/`.
 #![tactic(auto)]
 
 mod around;

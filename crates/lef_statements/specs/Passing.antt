@@ -1,5 +1,5 @@
--- What the readers of LEF and DEF pass over, one word after the other: a statement to its `;`, a section to `END` and its
--- name, a group to `END`, and what other tools have added to `ENDEXT` (LEF/DEF 5.8 Language Reference).
+-- What the readers of LEF and DEF pass over, one word after the other: a statement to its `;`, a section to `END` and
+-- its name, a group to `END`, and what other tools have added to `ENDEXT` (LEF/DEF 5.8 Language Reference).
 use Rattle.std.specs.Prelude.{ℕ, Bool, List, Option, Some, None, codes, if◌then◌else◌}
 use Rattle.lef_statements.specs.declared.passing.Passing.{Passing}
 use Rattle.lef_statements.specs.declared.passing.Passing.TheVariants.{Statement, Section, SectionEnd, Group, Extension}

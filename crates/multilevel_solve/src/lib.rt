@@ -1,6 +1,6 @@
 //! Solvers, which propose the lists from which a certificate is made. They tell nothing of what they propose: a
-//! certificate
-//! never rests on it. Each returns, takes no memory, keeps the region's number of cells and counts its proposals.
+//! certificate never rests on it. Each returns, takes no memory, keeps the region's number of cells and counts its
+//! proposals.
 #![tactic(auto)]
 
 mod null;

@@ -10,11 +10,9 @@ const SWEEPS: u32 = 200;
 /// The conductance of 1 nano-ohm, in the unit in which `Plain` adds up conductances.
 const CONDUCTANCE: i128 = 1_000_000_000_000_000;
 
-/// A solver that starts with the pads' voltages and sweeps over the nodes a fixed number of times. Each node that is
-/// no pad
-/// is brought to the voltage at which the currents at it add up, in the order of the nodes' numbers: the high list
-/// for the
-/// low ends of the loads, and the low list for the high ends. It uses no cell of the region.
+/// A solver that starts with the pads' voltages and sweeps over the nodes a fixed number of times. Each node that is no
+/// pad is brought to the voltage at which the currents at it add up, in the order of the nodes' numbers: the high list
+/// for the low ends of the loads, and the low list for the high ends. It uses no cell of the region.
 ///
 /// Contracts see how many proposals it was asked for.
 #[derive(Drop)]

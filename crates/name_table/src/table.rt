@@ -5,6 +5,7 @@ ghost use Rattle.name_table.specs.inside.Numbered.{numbered, numbered_cmp, IsPla
 ghost use Rattle.name_table.specs.Numbering.{TakesName, AreDistinct};
 
 use crate::key::Key;
+use entry_list::Entries;
 use indexmap::IndexSet;
 use std::alloc::{AllocError, Global};
 use std::marker::Model;
@@ -43,9 +44,9 @@ impl<'a> Model for NameTable<'a> {
 #[derive(Debug, Drop)]
 pub struct OrderedNames<'a> {
     /// The names, each before all later ones.
-    pub names: Vec<&'a [u8]>,
+    pub names: Entries<&'a [u8]>,
     /// For each number of the table, the place of its name in `names`.
-    pub places: Vec<u32>,
+    pub places: Entries<u32>,
 }
 
 /// A name with its number in the table.
@@ -112,17 +113,20 @@ impl<'a> NameTable<'a> {
 
     /// The names in byte order, and the new place of each number.
     pub fn ordered(&self, alloc: Global) -> Result<OrderedNames<'a>, AllocError>
-        ensures order { IfOk result (λ ordered. IsInByteOrder (map (λ n. n.now) ordered.names.items)) }
-        ensures same_names { IfOk result (λ ordered. IsPermutation self.now (map (λ n. n.now) ordered.names.items)) }
-        ensures every_number { IfOk result (λ ordered. length ordered.places.items ≡ length self.now) }
+        ensures order { IfOk result (λ ordered. IsInByteOrder (map (λ n. n.now) ordered.names)) }
+        ensures same_names { IfOk result (λ ordered. IsPermutation self.now (map (λ n. n.now) ordered.names)) }
+        ensures every_number { IfOk result (λ ordered. length ordered.places ≡ length self.now) }
         ensures places { IfOk result (λ ordered. EachIndex self.now (λ number.
-            slice_get (map (λ n. n.now) ordered.names.items) (slice_index ordered.places.items number)
+            slice_get (map (λ n. n.now) ordered.names) (slice_index ordered.places number)
             ≡ slice_get self.now number)) }
     {
         let sorted = sorted(alloc, self.names.as_slice())?;
         let names = names_of(alloc, &sorted)?;
         let places = places_of(alloc, &sorted)?;
-        Ok(OrderedNames { names, places })
+        Ok(OrderedNames {
+            names: Entries::new(names),
+            places: Entries::new(places),
+        })
     }
 }
 

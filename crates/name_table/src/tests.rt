@@ -35,7 +35,7 @@ fn numbered_and_ordered(rt: HostRuntime) -> Result<(), Fail> {
 fn an_empty_table(rt: HostRuntime) -> Result<(), Fail> {
     let table = NameTable::with_capacity(rt.alloc(), 0)?;
     let ordered = table.ordered(rt.alloc())?;
-    assert!(rt; ordered.names.is_empty());
-    assert!(rt; ordered.places.is_empty());
+    assert!(rt; ordered.names.as_slice().is_empty());
+    assert!(rt; ordered.places.as_slice().is_empty());
     Ok(())
 }

@@ -24,8 +24,8 @@ IsOtherSign Any is_below is_zero = ⊥
 IsOtherSign NotNegative is_below is_zero = is_below
 IsOtherSign Positive is_below is_zero = is_below ⊎ is_zero
 
--- The text is a number that may not stand in the place for its sign, also where it is below 0 and vanishes or passes the limit.
--- `-0` is not below 0.
+-- The text is a number that may not stand in the place for its sign, also where it is below 0 and vanishes or passes
+-- the limit. `-0` is not below 0.
 abbrev pub HasOtherSign : NumberPlace → List ℕ → Type 0
 HasOtherSign place text =
     IsOtherSign place.sign (StandsFor (is_of place.form) text IsNegative)
@@ -33,8 +33,10 @@ HasOtherSign place text =
 
 -- What a text stands for in the place: a value, or why it is refused. A number of another sign is Syntax.
 abbrev pub IsNumberAt : NumberPlace → List ℕ → Result ℤ Refused → Type 0
-IsNumberAt place text (Ok value) = (¬ HasOtherSign place text) × IsAnswer (is_of place.form) place.places place.limit text (Ok value)
-IsNumberAt place text (Err (Number error)) = (¬ HasOtherSign place text) × IsAnswer (is_of place.form) place.places place.limit text (Err error)
+IsNumberAt place text (Ok value) = (¬ HasOtherSign place text)
+    × IsAnswer (is_of place.form) place.places place.limit text (Ok value)
+IsNumberAt place text (Err (Number error)) = (¬ HasOtherSign place text)
+    × IsAnswer (is_of place.form) place.places place.limit text (Err error)
 IsNumberAt place text (Err Syntax) = HasOtherSign place text
 
 -- A place in which numbers can be read: at most 30 places, none for whole numbers, and a limit of at most 10^37.

@@ -1,5 +1,5 @@
-//! Numbers in the places of a format: one call reads a text as a number of the form, the places, the limit and the sign that the
-//! place asks, or says why it is refused there.
+//! Numbers in the places of a format: one call reads a text as a number of the form, the places, the limit and the sign
+//! that the place asks, or says why it is refused there.
 #![tactic(auto)]
 
 mod laws;

@@ -64,7 +64,8 @@ fn told(answer: Result<i128, DecimalError>) -> Result<i128, Refused>
 
 /// Reads the text as a number of the place.
 ///
-/// Errors: `Syntax` for a number of a sign that may not stand there, and otherwise the reason for which the text has no value.
+/// Errors: `Syntax` for a number of a sign that may not stand there, and otherwise the reason for which the text has no
+/// value.
 pub fn number_at(place: NumberPlace, text: &[u8]) -> Result<i128, Refused>
     requires { CanRead place }
     ensures answer { IsNumberAt place text.now result }

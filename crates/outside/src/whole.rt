@@ -102,7 +102,8 @@ pub fn read_whole<F: Files>(
         → OnSome (F.known files.old)
         (Rose ((F.counts files.old).reads name.now) ((F.counts files.new).reads name.now)) }
 
-    // No file changes. No count falls, none of another name changes, and none at all where the file was read or is too long.
+    // No file changes. No count falls, none of another name changes, and none at all where the file was read or is too
+    // long.
     ensures kept { F.known files.new ≡ F.known files.old }
     ensures none_falls { NoneFalls (F.counts files.old) (F.counts files.new) }
     ensures only { ChangesReads name.now (F.counts files.old) (F.counts files.new) }

@@ -63,7 +63,10 @@ fn judge(
 {
     one_network();
     match read_plain_netlist(alloc, netlist_text) {
-        Ok(read) => judge_certificate(alloc, &read.names, &read.net, certificate, certificate_text),
+        Ok(read) => {
+            let names = read.names.as_slice();
+            judge_certificate(alloc, names, &read.net, certificate, certificate_text)
+        }
         Err(PlainNetlistError::NotPlain) => not_plain(alloc, netlist),
         Err(PlainNetlistError::Want) => Answer::Want,
     }
@@ -97,7 +100,7 @@ fn judge_certificate(
         Err(PlainCertificateError::Want) => return Answer::Want,
     };
     let nodes = net.nodes();
-    match is_certificate(net, &lists.high, &lists.low) {
+    match is_certificate(net, lists.high.as_slice(), lists.low.as_slice()) {
         Ok(()) => Answer::Certified(nodes),
         Err(fails) => not_certified(alloc, names, fails),
     }

@@ -3,13 +3,21 @@ ghost use Rattle.std.specs.Prelude.{◌≡◌, ℕ, ℤ, List, [], ◌∷◌, �
 ghost use Rattle.plain_certificate.specs.Certificate.{IsPlainCertificate};
 
 use crate::row::{is_end, read_row};
+use entry_list::Entries;
 use std::alloc::{AllocError, Global};
 
 /// The voltages of a certificate in yoctovolts, for each node in the order of the network.
 #[derive(Debug, Drop)]
 pub struct Lists {
-    pub high: Vec<i128>,
-    pub low: Vec<i128>,
+    pub high: Entries<i128>,
+    pub low: Entries<i128>,
+}
+
+// The voltages of the rows so far.
+#[derive(Drop)]
+struct Rows {
+    high: Vec<i128>,
+    low: Vec<i128>,
 }
 
 /// Why a text gives no lists.
@@ -21,23 +29,23 @@ pub enum PlainCertificateError {
     Want,
 }
 
-// Empty lists with room for so many nodes.
-fn with_room(alloc: Global, nodes: usize) -> Result<Lists, AllocError>
-    ensures high { IfOk result (λ lists. lists.high.items ≡ []) }
-    ensures low { IfOk result (λ lists. lists.low.items ≡ []) }
+// No rows yet, and room for n of them.
+fn with_room(alloc: Global, nodes: usize) -> Result<Rows, AllocError>
+    ensures high { IfOk result (λ rows. rows.high.items ≡ []) }
+    ensures low { IfOk result (λ rows. rows.low.items ≡ []) }
 {
     let high = Vec::with_capacity(alloc, nodes)?;
     let low = Vec::with_capacity(alloc, nodes)?;
-    Ok(Lists { high, low })
+    Ok(Rows { high, low })
 }
 
 // The two voltages of one more node.
-fn push(lists: &mut Lists, high: i128, low: i128) -> Result<(), AllocError>
-    ensures high { OnOk result (lists.new.high.items ≡ lists.old.high.items ++ high ∷ []) }
-    ensures low { OnOk result (lists.new.low.items ≡ lists.old.low.items ++ low ∷ []) }
+fn push(rows: &mut Rows, high: i128, low: i128) -> Result<(), AllocError>
+    ensures high { OnOk result (rows.new.high.items ≡ rows.old.high.items ++ high ∷ []) }
+    ensures low { OnOk result (rows.new.low.items ≡ rows.old.low.items ++ low ∷ []) }
 {
-    lists.high.push(high)?;
-    lists.low.push(low)?;
+    rows.high.push(high)?;
+    rows.low.push(low)?;
     Ok(())
 }
 
@@ -48,13 +56,13 @@ pub fn read_plain_certificate(
     names: &[&[u8]],
 ) -> Result<Lists, PlainCertificateError>
     ensures ok { IfOk result
-        (λ lists. IsPlainCertificate text.now (map (λ n. n.now) names.now) lists.high.items lists.low.items) }
-    ensures high_count { IfOk result (λ lists. length lists.high.items ≡ length names.now) }
-    ensures low_count { IfOk result (λ lists. length lists.low.items ≡ length names.now) }
+        (λ lists. IsPlainCertificate text.now (map (λ n. n.now) names.now) lists.high lists.low) }
+    ensures high_count { IfOk result (λ lists. length lists.high ≡ length names.now) }
+    ensures low_count { IfOk result (λ lists. length lists.low ≡ length names.now) }
     ensures not_plain { result ≡ Err PlainCertificateError.NotPlain
         → (high low : List ℤ) → ¬ IsPlainCertificate text.now (map (λ n. n.now) names.now) high low }
 {
-    let Ok(mut lists) = with_room(alloc, names.len()) else {
+    let Ok(mut rows) = with_room(alloc, names.len()) else {
         return Err(PlainCertificateError::Want);
     };
     let Some(mut rest) = text.strip_prefix(b"pdn certificate 1\n") else {
@@ -64,13 +72,16 @@ pub fn read_plain_certificate(
         let Some(row) = read_row(*name, rest) else {
             return Err(PlainCertificateError::NotPlain);
         };
-        let Ok(()) = push(&mut lists, row.high, row.low) else {
+        let Ok(()) = push(&mut rows, row.high, row.low) else {
             return Err(PlainCertificateError::Want);
         };
         rest = row.rest;
     }
     if is_end(rest) {
-        Ok(lists)
+        Ok(Lists {
+            high: Entries::new(rows.high),
+            low: Entries::new(rows.low),
+        })
     } else {
         Err(PlainCertificateError::NotPlain)
     }

@@ -107,8 +107,8 @@ fn one_byte_away_from_plain(rt: HostRuntime) {
 #[test]
 fn no_nodes(rt: HostRuntime) -> Result<(), Fail> {
     let lists = read_plain_certificate(rt.alloc(), b"pdn certificate 1\nend\n", &[])?;
-    assert!(rt; lists.high.is_empty());
-    assert!(rt; lists.low.is_empty());
+    assert!(rt; lists.high.as_slice().is_empty());
+    assert!(rt; lists.low.as_slice().is_empty());
     let end = read_plain_certificate(rt.alloc(), b"end\n", &[]);
     assert!(rt; matches!(end, Err(PlainCertificateError::NotPlain)));
     Ok(())

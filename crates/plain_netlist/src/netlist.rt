@@ -7,6 +7,7 @@ ghost use Rattle.plain_netlist.specs.Netlist.{IsPlainNetlist};
 use crate::error::PlainNetlistError;
 use crate::laws::cards_are_known_by_their_lines;
 use crate::reader::read_cards;
+use entry_list::Entries;
 use grid_net::{Net, NetError, no_net_refusal};
 use name_table::{OrderedNames, one_order};
 use std::alloc::Global;
@@ -15,7 +16,7 @@ use std::alloc::Global;
 #[derive(Drop)]
 pub struct PlainNetlist<'a> {
     /// The names of the nodes in byte order, each once: the number of a node is the place of its name.
-    pub names: Vec<&'a [u8]>,
+    pub names: Entries<&'a [u8]>,
     /// The network: its resistors in the order of their cards in nΩ, its pads in yV, and its loads in fA.
     pub net: Net,
 }
@@ -45,7 +46,7 @@ pub fn read_plain_netlist<'a>(
     alloc: Global,
     text: &'a [u8],
 ) -> Result<PlainNetlist<'a>, PlainNetlistError>
-    ensures plain { IfOk result (λ read. IsPlainNetlist text.now (map (λ n. n.now) read.names.items) read.net) }
+    ensures plain { IfOk result (λ read. IsPlainNetlist text.now (map (λ n. n.now) read.names) read.net) }
     ensures not_plain { result ≡ Err PlainNetlistError.NotPlain → (names : List (List ℕ)) (net : Network)
         → ¬ IsPlainNetlist text.now names net }
 {
@@ -54,8 +55,8 @@ pub fn read_plain_netlist<'a>(
     no_net_refusal();
     let mut entries = read_cards(alloc, text)?;
     let OrderedNames { names, places } = entries.table.ordered(alloc)?;
-    entries.move_nodes(&places);
-    let nodes = names.len() as u32;
+    entries.move_nodes(places.as_slice());
+    let nodes = names.as_slice().len() as u32;
     match Net::build(alloc, nodes, entries.resistors, entries.pads, entries.loads) {
         Ok(net) => Ok(PlainNetlist { names, net }),
         Err(error) => Err(refusal(error)),

@@ -220,7 +220,8 @@ late f now = record {
 }
 
 -- The kind that is found at a word is the fault that the words show, where all faults of these words stand there.
-pub show-at : {S K : Type 0} (f : Format Token S K) (units : List (List Token)) (part : List Token) (n : ℕ) (shows : K → Type 0) →
+pub show-at : {S K : Type 0} (f : Format Token S K) (units : List (List Token)) (part : List Token) (n : ℕ)
+    (shows : K → Type 0) →
     ((a : Found K) → f.fault units part a → (a.at ≡ n) × shows a.kind) →
     ((kind : K) → shows kind → f.fault units part (record { at = n; kind = kind })) →
     (kind : Option K) → Finds shows kind → Shows f units part (found_at n kind)

@@ -29,3 +29,6 @@ pub use rule::Rule;
 pub use source::Source;
 pub use stop::{Step, Stop};
 pub use word::{Form, Word, last_word};
+
+#[cfg(test)]
+mod tests;

@@ -47,7 +47,8 @@ times_last r x = times_difference r x (pos 1) ∙ ap (λ n. r *ℤ x -ℤ n) (ti
 -- The library's quotient is the floor.
 pub floor_is : (z r : ℤ) → pos 1 ≤ℤ r → IsFloor z r (floor_div z r)
 floor_is (pos a) (pos k) h =
-    let s = div-add-mod' a k in let m : a % k < k = mod-lt a (omega (arith, ints)) in record { reached = omega (arith, ints); next_is_above = omega (arith, ints) }
+    let s = div-add-mod' a k in let m : a % k < k = mod-lt a (omega (arith, ints)) in record
+    { reached = omega (arith, ints); next_is_above = omega (arith, ints) }
 floor_is (negsuc a) (pos k) h =
     let s = div-add-mod' a k in
     let m : a % k < k = mod-lt a (omega (arith, ints)) in
@@ -112,7 +113,12 @@ greatest_of f (suc zero) h = (0, omega arith, first_is_greatest f)
 greatest_of f (suc (suc n)) h =
     let b = greatest_of f (suc n) (omega arith) in
     by_lt_z (f b.0) (f (suc n))
-    (λ lt. (suc n, omega arith, keeps_greatest f (suc n) (suc n) (λ j l. omega (arith, ints, b.2 j l)) (omega (arith, ints))))
+    (λ lt. (
+      suc n,
+      omega arith,
+      keeps_greatest f (suc n) (suc n) (λ j l. omega (arith, ints, b.2 j l))
+          (omega (arith, ints)),
+    ))
     (λ le. (b.0, omega (arith, b.1), keeps_greatest f (suc n) b.0 b.2 le))
 
 -- A floor is no farther from 0 than a limit of the number.
@@ -122,7 +128,8 @@ floor_in_limit z r m h low high =
     let f = floor_is z r h in
     let grown : pos m ≤ℤ (r *ℤ pos m) = factor_at_least r m h in
     let n = times_neg r (pos m) in
-    let below : neg_ℤ (pos m) <ℤ (floor_div z r +ℤ pos 1) = times_lt_out r (neg_ℤ (pos m)) (floor_div z r +ℤ pos 1) h (omega (arith, ints, f.next_is_above, grown, n, low)) in
+    let below : neg_ℤ (pos m) <ℤ (floor_div z r +ℤ pos 1) = times_lt_out r (neg_ℤ (pos m)) (floor_div z r +ℤ pos 1) h
+    (omega (arith, ints, f.next_is_above, grown, n, low)) in
     (omega (arith, ints, below), times_le_out r (floor_div z r) (pos m) h (omega (arith, ints, f.reached, grown, high)))
   where
     factor_at_least : (r : ℤ) (m : ℕ) → pos 1 ≤ℤ r → pos m ≤ℤ (r *ℤ pos m)

@@ -21,7 +21,8 @@ all_sorts = Set ∷ Semicolon ∷ Bracket ∷ Other ∷ TextEnd ∷ []
 -- The sort of a bare word.
 abbrev pub sort_of_text : List ℕ → Sort
 sort_of_text text =
-    keyword_or ((codes "SET", Set) ∷ (codes ";", Semicolon) ∷ (codes "(", Bracket) ∷ (codes ")", Bracket) ∷ []) Other text
+    keyword_or ((codes "SET", Set) ∷ (codes ";", Semicolon) ∷ (codes "(", Bracket) ∷
+    (codes ")", Bracket) ∷ []) Other text
 
 -- The sort of a word of this form. A word in quotes is no keyword and no mark.
 abbrev pub sort_with : Form → List ℕ → Sort

@@ -12,7 +12,7 @@ mod sort;
 
 use by_hand::count_by_hand;
 use fault::Kind;
-use outside::{StdFiles, read_whole};
+use outside::{LONGEST_TEXT, StdFiles, read_whole};
 use read::count_statements;
 use reading::Refusal;
 use std::alloc::{AllocError, Global};
@@ -22,9 +22,6 @@ use std::{env, io};
 
 #[cfg(test)]
 mod tests;
-
-/// The most bytes that a text has.
-const LIMIT: u64 = 1 << 28;
 
 /// The word of the command line with this number, or an empty one.
 fn word_at(alloc: Global, rt: &(impl Env + AllocGlobal), number: usize) -> io::Result<String> {
@@ -53,7 +50,7 @@ fn main(rt: HostRuntime) -> io::Result<ExitCode> {
         first
     };
     let mut files = StdFiles::new(alloc, &rt);
-    let Ok(text) = read_whole(alloc, &mut files, name.as_str(), LIMIT) else {
+    let Ok(text) = read_whole(alloc, &mut files, name.as_str(), LONGEST_TEXT) else {
         println!(rt; "not read")?;
         return Ok(ExitCode::from(3));
     };

@@ -1,5 +1,5 @@
-//! Bias files: `supply LINE NET VOLTS`, `droplimit LINE NET VOLTS`, `pad LINE NET LAYER X Y`, `cell LINE NAME LOW HIGH` and
-//! `instance LINE NAME LOW HIGH`, one list after the other.
+//! Bias files: `supply LINE NET VOLTS`, `droplimit LINE NET VOLTS`, `pad LINE NET LAYER X Y`, `cell LINE NAME LOW HIGH`
+//! and `instance LINE NAME LOW HIGH`, one list after the other.
 use crate::line::{add_number, add_word, begin, end, number_kind, refusal};
 use crate::{Printed, RECORD};
 use bias_file::{Amps, Bias, BiasKind, DropLimit, PadAt, Supply, read_bias};

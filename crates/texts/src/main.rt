@@ -1,5 +1,5 @@
-//! `texts FORMAT FILE`: reads a file by the reader of its format, for tests. It prints the record in the canonical form that
-//! docs/READING.md shows and ends with 0, or prints `<line>:<word>: <Kind>` and ends with 1.
+//! `texts FORMAT FILE`: reads a file by the reader of its format, for tests. It prints the record in the canonical form
+//! that docs/READING.md shows and ends with 0, or prints `<line>:<word>: <Kind>` and ends with 1.
 //!
 //! Another format is a module with a function like `bias::told`, and an arm in `told`.
 #![tactic(auto)]

@@ -1,7 +1,7 @@
 -- What the reader holds after whole lines.
 use Rattle.std.specs.Prelude.{◌≡◌, true, false, List, [], ◌∷◌, ◌++◌, Option, None, Some, Ok}
 use Rattle.entry_list.specs.InTurn.{InTurn}
-use Rattle.entry_list.specs.Named.{NamedList, HoldsNamed}
+use Rattle.named_entries.specs.Named.{NamedList, HoldsNamed}
 use Rattle.reading.specs.Grammar.{NoneShows}
 use Rattle.reading.specs.Word.{Token}
 use Rattle.bias_file.specs.declared.held.Held.{Held}

@@ -6,7 +6,8 @@ use Rattle.geom_rect.specs.Rect.{IsBetween, HasPoint}
 -- both intervals have one of this length in common, ends included
 abbrev pub ShareLength : ℤ → ℤ → ℤ → ℤ → ℤ → Type 0
 ShareLength a1 a2 b1 b2 length =
-    (z : ℤ) × ((IsBetween a1 a2 z × IsBetween a1 a2 (z +ℤ length)) × (IsBetween b1 b2 z × IsBetween b1 b2 (z +ℤ length)))
+    (z : ℤ) × ((IsBetween a1 a2 z × IsBetween a1 a2 (z +ℤ length))
+    × (IsBetween b1 b2 z × IsBetween b1 b2 (z +ℤ length)))
 
 -- the square of this side with its lower left corner at (x, y) lies in the rectangle
 abbrev pub HasSquare : Rect → ℤ → ℤ → ℤ → Type 0

@@ -29,7 +29,8 @@ one_taken rule R X A B u v false true Y none a b y =
     omega (arith, ints, ap (λ z. rule z R) e)
 one_taken rule R X A B u v false false Y none a b y = omega (arith, ints)
 
-module _ (rule : FlowRule) (nothing : (r : ℤ) → pos 1 ≤ℤ r → rule (pos 0) r ≡ pos 0) (n : ℕ) (x : ℕ → ℤ) (i : ℕ) (d : Resistor) (whole : List Resistor) where
+module _ (rule : FlowRule) (nothing : (r : ℤ) → pos 1 ≤ℤ r → rule (pos 0) r ≡ pos 0) (n : ℕ) (x : ℕ → ℤ) (i : ℕ)
+    (d : Resistor) (whole : List Resistor) where
   cons_if : (s : Bool) (f : ℕ → ℤ) (k : ℕ) (ks : List ℕ)
       → total f (cond s (k ∷ ks) ks) ≡ cond s (f k) (pos 0) +ℤ total f ks
   cons_if true f k ks = refl
@@ -46,10 +47,14 @@ module _ (rule : FlowRule) (nothing : (r : ℤ) → pos 1 ≤ℤ r → rule (pos
   around_from k (r ∷ rs) all at =
       let of_r = All-head (IsResistorOf n) r rs all in
       let here : get_or whole k d ≡ r = ap (λ m. get_or whole m d) (sym (add-zero k)) ∙ at 0 (omega arith) in
-      let rest = around_from (suc k) rs (All-tail (IsResistorOf n) r rs all) (λ m l. ap (λ j. get_or whole j d) (suc-add k m ∙ sym (add-suc k m)) ∙ at (suc m) (suc-le-suc l)) in
-      let one = one_taken rule r.ohms (x i) (x r.a) (x r.b) (pos 0) (pos 0) (eqb r.a i) (eqb r.b i) (x (other_end r i)) (nothing r.ohms of_r.resists) (λ e. ap x (eqb-true r.a i e)) (λ e. ap x (eqb-true r.b i e)) (chosen_end (eqb r.a i) r.a r.b) in
+      let rest = around_from (suc k) rs (All-tail (IsResistorOf n) r rs all)
+      (λ m l. ap (λ j. get_or whole j d) (suc-add k m ∙ sym (add-suc k m)) ∙ at (suc m) (suc-le-suc l)) in
+      let one = one_taken rule r.ohms (x i) (x r.a) (x r.b) (pos 0) (pos 0) (eqb r.a i) (eqb r.b i)
+      (x (other_end r i)) (nothing r.ohms of_r.resists) (λ e. ap x (eqb-true r.a i e))
+      (λ e. ap x (eqb-true r.b i e)) (chosen_end (eqb r.a i) r.a r.b) in
       let split = cons_if (stands_at i r) (flow_over rule whole x i d) k (places_from (suc k) rs i) in
-      let flow : flow_over rule whole x i d k ≡ rule (x i -ℤ x (other_end r i)) r.ohms = ap (λ (q : Resistor). rule (x i -ℤ x (other_end q i)) q.ohms) here in
+      let flow : flow_over rule whole x i d k ≡ rule (x i -ℤ x (other_end r i)) r.ohms = ap
+      (λ (q : Resistor). rule (x i -ℤ x (other_end q i)) q.ohms) here in
       let cut = ap (λ z. cond (stands_at i r) z (pos 0)) flow in
       omega (arith, ints, one, rest, split, cut)
 
@@ -68,13 +73,15 @@ below_if m false k ks here rest = rest
 places_below : (k : ℕ) (rs : List Resistor) (i : ℕ) → All (λ (p : ℕ). p < k + length rs) (places_from k rs i)
 places_below k [] i = All-nil (λ (p : ℕ). p < k + 0)
 places_below k (r ∷ rs) i =
-    let rest = All-weaker (λ (p : ℕ). p < suc k + length rs) (λ (p : ℕ). p < k + suc (length rs)) (λ p h. omega arith) (places_from (suc k) rs i) (places_below (suc k) rs i) in
+    let rest = All-weaker (λ (p : ℕ). p < suc k + length rs) (λ (p : ℕ). p < k + suc (length rs)) (λ p h. omega arith)
+    (places_from (suc k) rs i) (places_below (suc k) rs i) in
     below_if (k + suc (length rs)) (stands_at i r) k (places_from (suc k) rs i) (omega arith) rest
 
 -- Each place around a node is the place of a resistor.
 pub places_are_places : (rs : List Resistor) (i : ℕ) → All (λ (p : ℕ). p < length rs) (places_at rs i)
 places_are_places rs i =
-    All-weaker (λ (p : ℕ). p < 0 + length rs) (λ (p : ℕ). p < length rs) (λ p h. omega arith) (places_at rs i) (places_below 0 rs i)
+    All-weaker (λ (p : ℕ). p < 0 + length rs) (λ (p : ℕ). p < length rs) (λ p h. omega arith) (places_at rs i)
+    (places_below 0 rs i)
 
 -- ---- how large the flows around a node are
 -- What holds of each resistor that stands at a node holds at each of its places.
@@ -82,14 +89,18 @@ pub each_place : (P : ℕ → Type 0) (k : ℕ) (rs : List Resistor) (i : ℕ) (
     → ((m : ℕ) → m < length rs → stands_at i (get_or rs m d) ≡ true → P (k + m)) → All P (places_from k rs i)
 each_place P k [] i d h = All-nil P
 each_place P k (r ∷ rs) i d h =
-    by_test (stands_at i r) (λ e. subst P (add-zero k) (h 0 (omega arith) e)) (each_place P (suc k) rs i d (λ m l e. subst P (add-suc k m ∙ sym (suc-add k m)) (h (suc m) (suc-le-suc l) e)))
+    by_test (stands_at i r) (λ e. subst P (add-zero k) (h 0 (omega arith) e))
+    (each_place P (suc k) rs i d (λ m l e. subst P (add-suc k m ∙ sym (suc-add k m)) (h (suc m) (suc-le-suc l) e)))
   where
     by_test : (b : Bool) → (b ≡ true → P k) → All P (places_from (suc k) rs i)
         → All P (cond b (k ∷ places_from (suc k) rs i) (places_from (suc k) rs i))
     by_test true here rest = All-cons P k (places_from (suc k) rs i) (here refl) rest
     by_test false here rest = rest
 
-module _ (rule : FlowRule) (limit : ℕ) (turned : (z r : ℤ) → pos 1 ≤ℤ r → IsInLimit limit (rule z r) → IsInLimit (limit + 1) (rule (neg_ℤ z) r)) (n : ℕ) (rs : List Resistor) (all : All (IsResistorOf n) rs) (x : ℕ → ℤ) (flows : All (λ r. IsInLimit limit (rule (x r.a -ℤ x r.b) r.ohms)) rs) (i : ℕ) (d : Resistor) where
+module _ (rule : FlowRule) (limit : ℕ)
+    (turned : (z r : ℤ) → pos 1 ≤ℤ r → IsInLimit limit (rule z r) → IsInLimit (limit + 1) (rule (neg_ℤ z) r)) (n : ℕ)
+    (rs : List Resistor) (all : All (IsResistorOf n) rs) (x : ℕ → ℤ)
+    (flows : All (λ r. IsInLimit limit (rule (x r.a -ℤ x r.b) r.ohms)) rs) (i : ℕ) (d : Resistor) where
   one_flow : (r : Resistor) → IsResistorOf n r → IsInLimit limit (rule (x r.a -ℤ x r.b) r.ohms) → stands_at i r ≡ true
       → IsInLimit (limit + 1) (rule (x i -ℤ x (other_end r i)) r.ohms)
   one_flow r of_r within e = by_tests (eqb r.a i) (eqb r.b i) refl refl e
@@ -110,13 +121,17 @@ module _ (rule : FlowRule) (limit : ℕ) (turned : (z r : ℤ) → pos 1 ≤ℤ 
 
   pub flows_around : All (λ k. IsInLimit (limit + 1) (flow_over rule rs x i d k)) (places_at rs i)
   flows_around =
-      each_place (λ k. IsInLimit (limit + 1) (flow_over rule rs x i d k)) 0 rs i d (λ m l e. let m' : ◌≡◌ {A = ℕ} (0 + m) m = omega arith in let P : ℕ → Type 0 = λ k. IsInLimit (limit + 1) (flow_over rule rs x i d k) in subst P (sym m') (one_flow (get_or rs m d) (all m d l) (flows m d l) e))
+      each_place (λ k. IsInLimit (limit + 1) (flow_over rule rs x i d k)) 0 rs i d
+      (λ m l e. let m' : ◌≡◌ {A = ℕ} (0 + m) m = omega arith in let P : ℕ →
+      Type 0 = λ k. IsInLimit (limit + 1) (flow_over rule rs x i d k) in subst P (sym m')
+      (one_flow (get_or rs m d) (all m d l) (flows m d l) e))
 
 -- ---- the two rules
 -- Without a difference there is no flow.
 pub floor_nothing : (r : ℤ) → pos 1 ≤ℤ r → floor_div (pos 0) r ≡ pos 0
 floor_nothing r h =
-    floor_unique (pos 0) r (floor_div (pos 0) r) (pos 0) h (floor_is (pos 0) r h) (record { reached = omega (arith, ints); next_is_above = omega (arith, ints) })
+    floor_unique (pos 0) r (floor_div (pos 0) r) (pos 0) h (floor_is (pos 0) r h)
+    (record { reached = omega (arith, ints); next_is_above = omega (arith, ints) })
 
 pub ceiling_nothing : (r : ℤ) → pos 1 ≤ℤ r → ceil_div (pos 0) r ≡ pos 0
 ceiling_nothing r h = omega (arith, ints, floor_nothing r h)
@@ -129,8 +144,10 @@ floor_turned limit z r h within =
     let G = floor_div (neg_ℤ z) r in
     let f = floor_is z r h in
     let g = floor_is (neg_ℤ z) r h in
-    let below : (F +ℤ G) ≤ℤ pos 0 = times_le_out r (F +ℤ G) (pos 0) h (omega (arith, ints, f.reached, g.reached, times_sum r F G)) in
-    let above : pos 0 <ℤ ((F +ℤ G) +ℤ pos 2) = times_lt_out r (pos 0) ((F +ℤ G) +ℤ pos 2) h (omega (arith, ints, f.next_is_above, g.next_is_above, times_next r F, times_next r G, times_sum r F G, times_sum r (F +ℤ G) (pos 2))) in
+    let below : (F +ℤ G) ≤ℤ pos 0 = times_le_out r (F +ℤ G) (pos 0) h
+    (omega (arith, ints, f.reached, g.reached, times_sum r F G)) in
+    let above : pos 0 <ℤ ((F +ℤ G) +ℤ pos 2) = times_lt_out r (pos 0) ((F +ℤ G) +ℤ pos 2) h
+    (omega (arith, ints, f.next_is_above, g.next_is_above, times_next r F, times_next r G, times_sum r F G, times_sum r (F +ℤ G) (pos 2))) in
     (omega (arith, ints, below, above, within), omega (arith, ints, below, above, within))
 
 pub ceiling_turned : (limit : ℕ) (z r : ℤ) → pos 1 ≤ℤ r → IsInLimit limit (ceil_div z r)

@@ -8,7 +8,8 @@ use Rattle.grid_net.specs.Network.{Network, IsNetwork, low_load, high_load}
 abbrev IsRange : LoadRange → Type 0
 IsRange l = l.low ≤ℤ l.high
 
-each_in_order : (xs : List LoadRange) → All IsRange xs → (i : ℕ) → IsRange (get_or xs i (record { low = pos 0; high = pos 0 }))
+each_in_order : (xs : List LoadRange) → All IsRange xs → (i : ℕ) →
+    IsRange (get_or xs i (record { low = pos 0; high = pos 0 }))
 each_in_order [] all i = omega (arith, ints)
 each_in_order (x ∷ xs) all zero = All-head IsRange x xs all
 each_in_order (x ∷ xs) all (suc i) = each_in_order xs (All-tail IsRange x xs all) i

@@ -32,7 +32,8 @@ pub ranges_turned : (xs : List LoadRange) → All IsRange xs → All IsRange (ma
 ranges_turned [] all = All-nil IsRange
 ranges_turned (x ∷ xs) all =
     let here : x.low ≤ℤ x.high = All-head IsRange x xs all in
-    All-cons IsRange (turned_load x) (map turned_load xs) (omega (arith, ints, here)) (ranges_turned xs (All-tail IsRange x xs all))
+    All-cons IsRange (turned_load x) (map turned_load xs) (omega (arith, ints, here))
+    (ranges_turned xs (All-tail IsRange x xs all))
 
 pad_turned : (ps : List Pad) (i : ℕ) → first_pad (map turned_pad ps) i ≡ option_map neg_ℤ (first_pad ps i)
 pad_turned [] i = refl
@@ -80,7 +81,9 @@ outflow_turned rule (r ∷ rs) x z i is =
     let b = is r.b in
     let ab : neg_ℤ (x r.a -ℤ x r.b) ≡ z r.a -ℤ z r.b = omega (arith, ints) in
     let ba : neg_ℤ (x r.b -ℤ x r.a) ≡ z r.b -ℤ z r.a = omega (arith, ints) in
-    let e = taken_turned (eqb r.a i) (eqb r.b i) (rule (neg_ℤ (x r.a -ℤ x r.b)) r.ohms) (rule (neg_ℤ (x r.b -ℤ x r.a)) r.ohms) (rule (z r.a -ℤ z r.b) r.ohms) (rule (z r.b -ℤ z r.a) r.ohms) (ap (λ d. rule d r.ohms) ab) (ap (λ d. rule d r.ohms) ba) in
+    let e = taken_turned (eqb r.a i) (eqb r.b i) (rule (neg_ℤ (x r.a -ℤ x r.b)) r.ohms)
+    (rule (neg_ℤ (x r.b -ℤ x r.a)) r.ohms) (rule (z r.a -ℤ z r.b) r.ohms) (rule (z r.b -ℤ z r.a) r.ohms)
+    (ap (λ d. rule d r.ohms) ab) (ap (λ d. rule d r.ohms) ba) in
     omega (arith, ints, e, outflow_turned rule rs x z i is)
   where
     taken_turned : (s t : Bool) (u v u' v' : ℤ) → u ≡ u' → v ≡ v'

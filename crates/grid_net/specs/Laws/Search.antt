@@ -40,18 +40,21 @@ found_below zero i test x l none e = absurd (omega arith)
 found_below (suc n) i test x l none e = elim (cases_lt i n) [
   | inl lt ↦ some_first (first_below n test) (test n) x (found_below n i test x lt none e)
   | inr ge ↦ (let same : i ≡ n =
-      omega arith in ap (λ o. or_else o (test n)) (ap (λ k. first_below k test) (sym same) ∙ none) ∙ ap test (sym same) ∙ e)
+      omega arith in ap (λ o. or_else o (test n)) (ap (λ k. first_below k test) (sym same) ∙ none)
+      ∙ ap test (sym same) ∙ e)
 ]
 
 pub none_of : {X Y : Type 0} (test : X → Option Y) (xs : List X) → first_of test xs ≡ None → All (λ x. test x ≡ None) xs
 none_of test [] e = All-nil (λ x. test x ≡ None)
 none_of test (x ∷ xs) e =
-    All-cons (λ y. test y ≡ None) x xs (none_first (test x) (first_of test xs) e) (none_of test xs (none_second (test x) (first_of test xs) e))
+    All-cons (λ y. test y ≡ None) x xs (none_first (test x) (first_of test xs) e)
+    (none_of test xs (none_second (test x) (first_of test xs) e))
 
 pub of_none : {X Y : Type 0} (test : X → Option Y) (xs : List X) → All (λ x. test x ≡ None) xs → first_of test xs ≡ None
 of_none test [] all = refl
 of_none test (x ∷ xs) all =
-    none_both (test x) (first_of test xs) (All-head (λ y. test y ≡ None) x xs all) (of_none test xs (All-tail (λ y. test y ≡ None) x xs all))
+    none_both (test x) (first_of test xs) (All-head (λ y. test y ≡ None) x xs all)
+    (of_none test xs (All-tail (λ y. test y ≡ None) x xs all))
 
 -- One more entry of a list that holds nothing so far.
 pub none_so_far : {X Y : Type 0} (test : X → Option Y) (xs : List X) (k : ℕ) (d : X) → k < length xs
@@ -59,14 +62,16 @@ pub none_so_far : {X Y : Type 0} (test : X → Option Y) (xs : List X) (k : ℕ)
 none_so_far test [] k d l e f = absurd (omega arith)
 none_so_far test (x ∷ xs) zero d l e f = none_both (test x) None f refl
 none_so_far test (x ∷ xs) (suc k) d l e f =
-    none_both (test x) (first_of test (take (suc k) xs)) (none_first (test x) (first_of test (take k xs)) e) (none_so_far test xs k d (le_of_suc-le-suc l) (none_second (test x) (first_of test (take k xs)) e) f)
+    none_both (test x) (first_of test (take (suc k) xs)) (none_first (test x) (first_of test (take k xs)) e)
+    (none_so_far test xs k d (le_of_suc-le-suc l) (none_second (test x) (first_of test (take k xs)) e) f)
 
 pub found_of : {X Y : Type 0} (test : X → Option Y) (xs : List X) (k : ℕ) (d : X) (y : Y) → k < length xs
     → first_of test (take k xs) ≡ None → test (get_or xs k d) ≡ Some y → first_of test xs ≡ Some y
 found_of test [] k d y l e f = absurd (omega arith)
 found_of test (x ∷ xs) zero d y l e f = some_first (test x) (first_of test xs) y f
 found_of test (x ∷ xs) (suc k) d y l e f =
-    ap (λ o. or_else o (first_of test xs)) (none_first (test x) (first_of test (take k xs)) e) ∙ found_of test xs k d y (le_of_suc-le-suc l) (none_second (test x) (first_of test (take k xs)) e) f
+    ap (λ o. or_else o (first_of test xs)) (none_first (test x) (first_of test (take k xs)) e)
+    ∙ found_of test xs k d y (le_of_suc-le-suc l) (none_second (test x) (first_of test (take k xs)) e) f
 
 -- An answer that is found, as code finds it.
 pub found_answer : {X : Type 0} (n i : ℕ) (test : ℕ → Option X) (answer : Option X) → i < n

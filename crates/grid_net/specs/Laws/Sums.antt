@@ -20,7 +20,13 @@ part_le false u v h = omega (arith, ints)
 pub taken_le : (r : Resistor) (i : ℕ) (u v u' v' : ℤ) → (r.a ≡ i → u ≤ℤ u') → (r.b ≡ i → v ≤ℤ v')
     → taken_by r i u v ≤ℤ taken_by r i u' v'
 taken_le r i u v u' v' h k =
-    omega (arith, ints, part_le (eqb r.a i) u u' (λ e. h (eqb-true r.a i e)), part_le (eqb r.b i) v v' (λ e. k (eqb-true r.b i e)))
+    omega (
+      arith,
+      ints,
+      part_le (eqb r.a i) u u' (λ e. h (eqb-true r.a i e)),
+      part_le (eqb r.b i) v v'
+          (λ e. k (eqb-true r.b i e)),
+    )
 
 part_times : (s : Bool) (q u : ℤ) → q *ℤ cond s u (pos 0) ≡ cond s (q *ℤ u) (pos 0)
 part_times true q u = refl

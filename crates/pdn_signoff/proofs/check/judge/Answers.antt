@@ -7,7 +7,7 @@ use Rattle.pdn_signoff.proofs.check.judge.Goals as goal
 pub returns-in-Ok : goal.returns-in-Ok
 returns-in-Ok c =
     c.judge_certificate.ensures c.args.netlist.now c.args.netlist_text.now
-    (subst (λ (ns : List (Bor (List ℕ))). IsPlainNetlist c.args.netlist_text.now (map (λ (n : Bor (List ℕ)). n.now) ns) c.in-Ok.read.net) (sym c.deref.ensures.value) c.in-Ok.ensures.plain)
+    (subst (λ (ns : List (Bor (List ℕ))). IsPlainNetlist c.args.netlist_text.now (map (λ (n : Bor (List ℕ)). n.now) ns) c.in-Ok.read.net) (sym c.as_slice-names.ensures) c.in-Ok.ensures.plain)
 
 pub returns-in-Err-NotPlain : goal.returns-in-Err-NotPlain
 returns-in-Err-NotPlain c =

@@ -14,7 +14,7 @@ returns-in-Err-NotPlain c netlist netlist_text plain =
 pub not_certified-requires : goal.not_certified-requires
 not_certified-requires c =
     subst (λ n. c.in-Err.fails.node < n) (sym c.requires)
-    (failing_node c.args.net.now (entry_of c.deref.result.now) (entry_of c.deref-2.result.now) c.in-Err.fails.node c.in-Err.fails.side c.in-Err.fails.found c.nodes-nodes.ensures.built.is_network c.in-Err.ensures.fails)
+    (failing_node c.args.net.now (entry_of c.as_slice.result.now) (entry_of c.as_slice-2.result.now) c.in-Err.fails.node c.in-Err.fails.side c.in-Err.fails.found c.nodes-nodes.ensures.built.is_network c.in-Err.ensures.fails)
 
 pub returns : goal.returns
 returns c netlist netlist_text plain =
@@ -22,9 +22,9 @@ returns c netlist netlist_text plain =
       | inl want ↦ judged_want netlist c.args.certificate.now netlist_text c.args.certificate_text.now c.not_certified.result want
       | inr named ↦
           let names = map (λ (n : Bor (List ℕ)). n.now) c.args.names.now in
-          let lists : IsPlainCertificate c.args.certificate_text.now names c.deref.result.now c.deref-2.result.now =
-          subst (λ (high : List ℤ). IsPlainCertificate c.args.certificate_text.now names high c.deref-2.result.now) (sym c.deref.ensures.value)
-          (subst (λ (low : List ℤ). IsPlainCertificate c.args.certificate_text.now names c.in-Ok.lists.high.items low) (sym c.deref-2.ensures.value) c.in-Ok.ensures.ok) in
+          let lists : IsPlainCertificate c.args.certificate_text.now names c.as_slice.result.now c.as_slice-2.result.now =
+          subst (λ (high : List ℤ). IsPlainCertificate c.args.certificate_text.now names high c.as_slice-2.result.now) (sym c.as_slice.ensures)
+          (subst (λ (low : List ℤ). IsPlainCertificate c.args.certificate_text.now names c.in-Ok.lists.high low) (sym c.as_slice-2.ensures) c.in-Ok.ensures.ok) in
           subst (Judges netlist c.args.certificate.now netlist_text c.args.certificate_text.now) (sym named.2)
-          (names, c.args.net.now, c.deref.result.now, c.deref-2.result.now, record { network = plain; lists = lists }, (c.in-Err.fails, c.in-Err.ensures.first, named.1, refl, refl))
+          (names, c.args.net.now, c.as_slice.result.now, c.as_slice-2.result.now, record { network = plain; lists = lists }, (c.in-Err.fails, c.in-Err.ensures.first, named.1, refl, refl))
     ]

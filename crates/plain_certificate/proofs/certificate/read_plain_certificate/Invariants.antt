@@ -4,4 +4,4 @@ use Rattle.plain_certificate.proofs.certificate.read_plain_certificate.Given as 
 
 abbrev pub invariant-loop-name : goal.invariant-loop-name
 invariant-loop-name l =
-    HasRead l.fn.text (map (λ n. n.now) l.names) l.lists.high.items l.lists.low.items (map (λ n. n.now) (drop l.name-index l.names)) l.rest
+    HasRead l.fn.text (map (λ n. n.now) l.names) l.rows.high.items l.rows.low.items (map (λ n. n.now) (drop l.name-index l.names)) l.rest

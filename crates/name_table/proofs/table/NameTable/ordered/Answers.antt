@@ -19,30 +19,31 @@ places_of-requires-clause-within c =
 
 pub returns-clause-order : goal.returns-clause-order
 returns-clause-order c =
-    let e = ap (map (λ n. n.now)) (c.in_ok-names.ensures ∙ ap (map (λ n. n.name.name)) c.deref.ensures.value) ∙ slices_of_entries c.in_ok-sorted.sorted.items in
+    let e = ap (map (λ n. n.now)) (c.new.ensures ∙ c.in_ok-names.ensures ∙ ap (map (λ n. n.name.name)) c.deref.ensures.value) ∙ slices_of_entries c.in_ok-sorted.sorted.items in
     subst IsInByteOrder (sym e)
     (in_byte_order c.as_slice.result.now c.in_ok-sorted.sorted.items (subst (IsDistinct same_key) (sym c.as_slice.ensures.keys) c.as_slice.ensures.unique) c.in_ok-sorted.ensures.permutation c.in_ok-sorted.ensures.sorted)
 
 pub returns-clause-same_names : goal.returns-clause-same_names
 returns-clause-same_names c =
-    let e = ap (map (λ n. n.now)) (c.in_ok-names.ensures ∙ ap (map (λ n. n.name.name)) c.deref.ensures.value) ∙ slices_of_entries c.in_ok-sorted.sorted.items in
+    let e = ap (map (λ n. n.now)) (c.new.ensures ∙ c.in_ok-names.ensures ∙ ap (map (λ n. n.name.name)) c.deref.ensures.value) ∙ slices_of_entries c.in_ok-sorted.sorted.items in
     let named = ap names_of c.as_slice.ensures.keys ∙ c.self.view_is in
-    subst (λ (names : List (List ℕ)). IsPermutation names (map (λ n. n.now) c.in_ok-names.names.items)) named
+    subst (λ (names : List (List ℕ)). IsPermutation names (map (λ n. n.now) c.new.result)) named
     (subst (λ (names : List (List ℕ)). IsPermutation (names_of c.as_slice.result.now) names) (sym e)
     (same_names c.as_slice.result.now c.in_ok-sorted.sorted.items c.in_ok-sorted.ensures.permutation))
 
 pub returns-clause-every_number : goal.returns-clause-every_number
 returns-clause-every_number c =
     let named = ap names_of c.as_slice.ensures.keys ∙ c.self.view_is in
-    c.in_ok-places.ensures.count ∙ ap length c.deref-2.ensures.value ∙ length_entries _ _ c.in_ok-sorted.ensures.permutation
+    ap length c.new-2.ensures ∙ c.in_ok-places.ensures.count ∙ ap length c.deref-2.ensures.value ∙ length_entries _ _ c.in_ok-sorted.ensures.permutation
     ∙ sym (length-map c.as_slice.result.now (λ k. k.name.now)) ∙ ap length named
 
 pub returns-clause-places : goal.returns-clause-places
 returns-clause-places c =
-    let e = ap (map (λ n. n.now)) (c.in_ok-names.ensures ∙ ap (map (λ n. n.name.name)) c.deref.ensures.value) ∙ slices_of_entries c.in_ok-sorted.sorted.items in
+    let e = ap (map (λ n. n.now)) (c.new.ensures ∙ c.in_ok-names.ensures ∙ ap (map (λ n. n.name.name)) c.deref.ensures.value) ∙ slices_of_entries c.in_ok-sorted.sorted.items in
     let named = ap names_of c.as_slice.ensures.keys ∙ c.self.view_is in
-    let places = c.in_ok-places.places.items in
-    let placed = subst (λ (l : List NumberedName). IsPlaced (map (λ n. n.number) l) places) c.deref-2.ensures.value c.in_ok-places.ensures.placed in
-    subst (λ (names : List (List ℕ)). (i : ℕ) → i < length names → slice_get (map (λ n. n.now) c.in_ok-names.names.items) (get_or places i 0) ≡ slice_get names i) named
+    let places = c.new-2.result in
+    let placed = subst (IsPlaced (map (λ n. n.number) c.in_ok-sorted.sorted.items)) (sym c.new-2.ensures)
+    (subst (λ (l : List NumberedName). IsPlaced (map (λ n. n.number) l) c.in_ok-places.places.items) c.deref-2.ensures.value c.in_ok-places.ensures.placed) in
+    subst (λ (names : List (List ℕ)). (i : ℕ) → i < length names → slice_get (map (λ n. n.now) c.new.result) (get_or places i 0) ≡ slice_get names i) named
     (subst (λ (names : List (List ℕ)). (i : ℕ) → i < length (names_of c.as_slice.result.now) → slice_get names (get_or places i 0) ≡ slice_get (names_of c.as_slice.result.now) i) (sym e)
     (name_at_place c.as_slice.result.now c.in_ok-sorted.sorted.items places c.in_ok-sorted.ensures.permutation placed))

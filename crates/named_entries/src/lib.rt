@@ -1,8 +1,10 @@
 //! Lists of entries of which each has a name of its own.
+#![tactic(auto)]
+
 ghost use Rattle.std.specs.Prelude.{◌≡◌, ◌↔◌, [], ◌∷◌, ◌++◌, Contains, IfOk, IsTrue, OnOk};
 ghost use Rattle.name_table.specs.Numbering.{TakesName, AreDistinct};
 
-use crate::Entries;
+use entry_list::Entries;
 use name_table::NameTable;
 use std::alloc::{AllocError, Global};
 use std::marker::Model;
@@ -17,7 +19,7 @@ pub struct NamedEntries<'a, T> {
 }
 
 impl<'a, T> Model for NamedEntries<'a, T> {
-    ghost use Rattle.entry_list.specs.Named.{NamedList};
+    ghost use Rattle.named_entries.specs.Named.{NamedList};
 
     ghost Value = { NamedList T };
 
@@ -67,3 +69,6 @@ impl<'a, T: Drop> NamedEntries<'a, T> {
         Entries::new(self.entries)
     }
 }
+
+#[cfg(test)]
+mod tests;

@@ -8,6 +8,7 @@ pub record NamedList (E : Type 0) : Type 0 where
   pub entries : List E
 
 -- The names on these lines, and what the lines say.
-pub record HoldsNamed {L E : Type 0} (says : L → E → Type 0) (name : L → List ℕ) (lines : List L) (named : NamedList E) : Type 0 where
+pub record HoldsNamed {L E : Type 0} (says : L → E → Type 0) (name : L →
+    List ℕ) (lines : List L) (named : NamedList E) : Type 0 where
   pub names : named.names ≡ map name lines
   pub entries : InTurn says lines named.entries

@@ -5,6 +5,7 @@ pub mod Adding
 pub mod Building
 pub mod Level
 pub mod Solution
+pub mod Shorted
 pub mod Certificate
 pub mod Mirror
 pub mod Solver

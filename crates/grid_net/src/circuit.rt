@@ -5,7 +5,7 @@ ghost use Rattle.grid_net.specs.Building.{network_of, KeepsLimits, PadsAgree, fi
 
 use crate::around::{Around, around_nodes};
 use crate::error::NetError;
-use crate::part::{Load, LoadRange, Pad, Resistor};
+use crate::part::{Load, LoadRange, Pad, Parts, Resistor};
 use crate::refusal::limit_refusal;
 use crate::table::{load_ranges, pad_voltages, pads_in_order};
 use std::alloc::Global;
@@ -116,5 +116,19 @@ impl Circuit {
         let start = self.around.starts[node as usize] as usize;
         let end = self.around.starts[node as usize + 1] as usize;
         &self.around.places[start..end]
+    }
+
+    /// The lists, taken out.
+    pub fn into_parts(self) -> Parts
+        ensures resistors { result.resistors.items ≡ self.resistors }
+        ensures pads { result.pads.items ≡ self.pads }
+        ensures loads { result.loads.items ≡ self.loads }
+        ensures built { IsBuilt self }
+    {
+        Parts {
+            resistors: self.resistors,
+            pads: self.pads,
+            loads: self.ranges,
+        }
     }
 }

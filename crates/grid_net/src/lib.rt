@@ -28,7 +28,7 @@ pub use limits::{
 };
 pub use network::Net;
 pub use note::Note;
-pub use part::{Load, LoadRange, Pad, Resistor};
+pub use part::{Load, LoadRange, Pad, Parts, Resistor};
 pub use solver::{Fixed, Solver};
 
 #[cfg(test)]

@@ -7,7 +7,7 @@ ghost use Rattle.grid_net.specs.Level.{LevelIs, IsSupplied, IsFirstUnsupplied};
 use crate::circuit::Circuit;
 use crate::error::NetError;
 use crate::level::levels;
-use crate::part::{Load, Pad, Resistor};
+use crate::part::{Load, Pad, Parts, Resistor};
 use std::alloc::Global;
 use std::marker::Model;
 
@@ -130,5 +130,15 @@ impl Net {
             }
         }
         Ok(())
+    }
+
+    /// The lists that the network is made of, taken out of it. It takes no memory.
+    pub fn into_parts(self) -> Parts
+        ensures resistors { result.resistors.items ≡ self.resistors }
+        ensures pads { result.pads.items ≡ self.pads }
+        ensures loads { result.loads.items ≡ self.loads }
+        ensures built { IsBuilt self }
+    {
+        self.circuit.into_parts()
     }
 }

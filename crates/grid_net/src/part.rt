@@ -41,3 +41,14 @@ pub struct LoadRange {
     pub low: i64,
     pub high: i64,
 }
+
+/// The lists that a network is made of, taken out of it.
+#[derive(Debug, Drop)]
+pub struct Parts {
+    /// The resistors, as they were handed in.
+    pub resistors: Vec<Resistor>,
+    /// The pads in the order of nodes, each node once.
+    pub pads: Vec<Pad>,
+    /// For each node the range of its load.
+    pub loads: Vec<LoadRange>,
+}

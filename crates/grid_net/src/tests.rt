@@ -79,6 +79,10 @@ fn a_network_tells_what_it_holds(rt: HostRuntime) {
     assert!(rt; net.around(1) == [0, 1, 2, 3].as_slice());
     assert!(rt; net.around(2) == [3].as_slice());
     assert!(rt; net.around(3).is_empty());
+    let parts = net.into_parts();
+    assert_eq!(rt; parts.resistors.len(), 4);
+    assert!(rt; parts.pads.as_slice() == in_order.as_slice());
+    assert_eq!(rt; parts.loads.len(), 4);
 }
 
 #[test]

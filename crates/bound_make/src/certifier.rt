@@ -1,5 +1,6 @@
-ghost use Rattle.std.specs.Prelude.{◌≡◌, ◌<◌, ◌≤◌, ◌+◌, ◌*◌, ℕ, length, IfOk, IfErr};
+ghost use Rattle.std.specs.Prelude.{◌≡◌, ◌<◌, ◌≤◌, ◌+◌, ◌*◌, ◌^◌, ℕ, length, IfOk, IfErr};
 ghost use Rattle.outside.specs.Counts.{Rose};
+ghost use Rattle.level_region.specs.Block.{IsWithin};
 ghost use Rattle.grid_net.specs.Limits.{IsBuilt};
 ghost use Rattle.grid_net.specs.Certificate.{IsCertificate, IsTight};
 ghost use Rattle.grid_net.specs.Level.{IsLevel, IsSupplied};
@@ -9,9 +10,10 @@ ghost use Rattle.bound_make.specs.Certifier.{LieInRange, MadeOfTold};
 use crate::half::Half;
 use crate::make::make;
 use crate::scale::{Scale, scale_of};
+use crate::work_list::WorkList;
 use bound_check::Certified;
 use grid_net::{Net, Solver};
-use level_region::Region;
+use level_region::{Region, Span};
 use std::alloc::{AllocError, Global};
 use std::marker::Model;
 
@@ -86,6 +88,16 @@ fn memory_for(alloc: Global, net: &Net) -> Result<Memory, AllocError>
     })
 }
 
+/// The cells of a work list of so many nodes: one for each in its ring, and one for its mark. None where the region
+/// has too few.
+fn list_span(work: &mut Region, nodes: usize) -> Span
+    requires { 2 * nodes < 2 ^ 64 }
+    ensures { IsWithin result work.new }
+{
+    work.reset();
+    work.cut(2 * nodes).unwrap_or(Span { start: 0, len: 0 })
+}
+
 /// Fills the two lists of a certificate of a network, of what a solver proposes, and counts the sweeps.
 fn fill<V: Solver>(
     net: &Net,
@@ -105,11 +117,13 @@ fn fill<V: Solver>(
     ensures asked { Rose (V.proposals solver.old) (V.proposals solver.new) }
     ensures told { V.told solver.new ≡ V.told solver.old }
 {
-    let _nodes = net.nodes();
+    let nodes = net.nodes() as usize;
     solver.propose(net, work, high, low);
     let scale = scale_of(net, level);
-    let of_high = make(net, Half::High, scale, high);
-    let of_low = make(net, Half::Low, scale, low);
+    let span = list_span(work, nodes);
+    let mut list = WorkList::new(work.get_mut(span));
+    let of_high = make(net, Half::High, scale, high, &mut list);
+    let of_low = make(net, Half::Low, scale, low, &mut list);
     of_high.saturating_add(of_low)
 }
 

@@ -11,6 +11,7 @@ mod make;
 mod phase;
 mod scale;
 mod step;
+mod work_list;
 
 pub use certifier::Certifier;
 

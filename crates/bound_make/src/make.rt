@@ -9,6 +9,7 @@ ghost use Rattle.bound_make.specs.Certifier.{start_value, start_list};
 use crate::half::{Half, seen_from};
 use crate::phase::{lower_until_trim, raise_until_full};
 use crate::scale::Scale;
+use crate::work_list::WorkList;
 use grid_net::Net;
 
 /// A proposal brought to the nearest number in the range of the starts.
@@ -66,7 +67,7 @@ fn turn_back(half: Half, x: &mut [i128])
 }
 
 /// Makes a list of a certificate out of its proposal, and counts the sweeps.
-pub fn make(net: &Net, half: Half, scale: Scale, x: &mut [i128]) -> u64
+pub fn make(net: &Net, half: Half, scale: Scale, x: &mut [i128], list: &mut WorkList) -> u64
     requires built { IsBuilt net.now }
     requires size { length x.old ≡ net.now.nodes }
     requires room { HasRoom scale.bottom scale.top scale.width }
@@ -75,8 +76,8 @@ pub fn make(net: &Net, half: Half, scale: Scale, x: &mut [i128]) -> u64
     ensures made { IsMade half net.now scale.bottom scale.top (unsigned_abs scale.width) x.old x.new }
 {
     make_start(net, half, scale, x);
-    let rises = raise_until_full(net, half, x);
-    let falls = lower_until_trim(net, half, x);
+    let rises = raise_until_full(net, half, x, list);
+    let falls = lower_until_trim(net, half, x, list);
     turn_back(half, x);
     rises.saturating_add(falls)
 }

@@ -6,6 +6,7 @@ ghost use Rattle.bound_make.specs.inside.Moving.{IsFull, IsTrim, IsRaising, IsRa
 use crate::flow::node_sum;
 use crate::half::Half;
 use crate::step::{fall_step, rise_step};
+use crate::work_list::WorkList;
 use grid_net::{MOST_EXCESS, Net};
 
 /// Raises a node whose sum is below 1, as far as its sum asks for at once, and tells whether it was raised.
@@ -49,8 +50,9 @@ fn lower(net: &Net, half: Half, x: &mut [i128], node: u32) -> bool
     true
 }
 
-/// One sweep over all nodes that raises each whose sum is below 1, and tells whether there was one.
-fn raise_all(net: &Net, half: Half, x: &mut [i128]) -> bool
+/// One sweep over all nodes that raises each whose sum is below 1, lists it and the nodes around it, and tells whether
+/// there was one.
+fn raise_all(net: &Net, half: Half, x: &mut [i128], list: &mut WorkList) -> bool
     requires built { IsBuilt net.now }
     requires raisable { IsRaisable (seen half net.now) x.old }
     ensures kept { IsRaising (seen half net.now) x.old x.new }
@@ -60,14 +62,16 @@ fn raise_all(net: &Net, half: Half, x: &mut [i128]) -> bool
     let mut rose = false;
     for node in 0..net.nodes() {
         if raise(net, half, x, node) {
+            list.push_around(net, node);
             rose = true;
         }
     }
     rose
 }
 
-/// One sweep over all nodes that lowers each whose sum passes 1 by too much, and tells whether there was one.
-fn lower_all(net: &Net, half: Half, x: &mut [i128]) -> bool
+/// One sweep over all nodes that lowers each whose sum passes 1 by too much, lists it and the nodes around it, and
+/// tells whether there was one.
+fn lower_all(net: &Net, half: Half, x: &mut [i128], list: &mut WorkList) -> bool
     requires built { IsBuilt net.now }
     requires lowerable { IsLowerable (seen half net.now) x.old }
     ensures kept { IsLowering (seen half net.now) x.old x.new }
@@ -77,35 +81,67 @@ fn lower_all(net: &Net, half: Half, x: &mut [i128]) -> bool
     let mut fell = false;
     for node in 0..net.nodes() {
         if lower(net, half, x, node) {
+            list.push_around(net, node);
             fell = true;
         }
     }
     fell
 }
 
+/// Raises the listed nodes whose sums are below 1, each with the nodes around it listed again, until none is listed.
+fn raise_listed(net: &Net, half: Half, x: &mut [i128], list: &mut WorkList)
+    requires built { IsBuilt net.now }
+    requires raisable { IsRaisable (seen half net.now) x.old }
+    ensures kept { IsRaising (seen half net.now) x.old x.new }
+    ensures room { rise_room x.new ≤ rise_room x.old }
+{
+    while let Some(node) = list.pop() {
+        if node < net.nodes() && raise(net, half, x, node) {
+            list.push_around(net, node);
+        }
+    }
+}
+
+/// Lowers the listed nodes whose sums pass 1 by too much, each with the nodes around it listed again, until none is
+/// listed.
+fn lower_listed(net: &Net, half: Half, x: &mut [i128], list: &mut WorkList)
+    requires built { IsBuilt net.now }
+    requires lowerable { IsLowerable (seen half net.now) x.old }
+    ensures kept { IsLowering (seen half net.now) x.old x.new }
+    ensures room { fall_room x.new ≤ fall_room x.old }
+{
+    while let Some(node) = list.pop() {
+        if node < net.nodes() && lower(net, half, x, node) {
+            list.push_around(net, node);
+        }
+    }
+}
+
 /// Raises nodes until each sum is at least 1, and counts the sweeps in which one rose.
-pub fn raise_until_full(net: &Net, half: Half, x: &mut [i128]) -> u64
+pub fn raise_until_full(net: &Net, half: Half, x: &mut [i128], list: &mut WorkList) -> u64
     requires built { IsBuilt net.now }
     requires raisable { IsRaisable (seen half net.now) x.old }
     ensures kept { IsRaising (seen half net.now) x.old x.new }
     ensures full { (i : ℕ) → i < net.now.nodes → IsFull (seen half net.now) x.new i }
 {
     let mut sweeps: u64 = 0;
-    while raise_all(net, half, x) {
+    while raise_all(net, half, x, list) {
+        raise_listed(net, half, x, list);
         sweeps = sweeps.saturating_add(1);
     }
     sweeps
 }
 
 /// Lowers nodes until no sum passes 1 by too much, and counts the sweeps in which one fell.
-pub fn lower_until_trim(net: &Net, half: Half, x: &mut [i128]) -> u64
+pub fn lower_until_trim(net: &Net, half: Half, x: &mut [i128], list: &mut WorkList) -> u64
     requires built { IsBuilt net.now }
     requires lowerable { IsLowerable (seen half net.now) x.old }
     ensures kept { IsLowering (seen half net.now) x.old x.new }
     ensures trim { (i : ℕ) → i < net.now.nodes → IsTrim (seen half net.now) x.new i }
 {
     let mut sweeps: u64 = 0;
-    while lower_all(net, half, x) {
+    while lower_all(net, half, x, list) {
+        lower_listed(net, half, x, list);
         sweeps = sweeps.saturating_add(1);
     }
     sweeps

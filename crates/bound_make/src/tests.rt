@@ -188,9 +188,9 @@ fn chain(rt: &(impl AllocGlobal + Abort), nodes: u32) -> Net {
     Net::build(rt.alloc(), nodes, resistors, pads, Vec::new(rt.alloc())).expect(rt, "a network")
 }
 
-/// The voltages at which 1 fA leaves each node of a chain but the first, towards the pad, times a sign; every ten
-/// thousandth node is off by 5 fA.
-fn proposal(rt: &(impl AllocGlobal + Abort), nodes: u32, sign: i128) -> Vec<i128> {
+/// The voltages at which 1 fA leaves each node of a chain but the first, towards the pad, times a sign. In the middle of
+/// every ten thousand nodes a few neighbours are off by 1 mV.
+fn proposal(rt: &(impl AllocGlobal + Abort), nodes: u32, sign: i128, neighbours: u32) -> Vec<i128> {
     let mut list = Vec::new(rt.alloc());
     let mut volts = VOLT;
     for node in 0..nodes {
@@ -198,8 +198,8 @@ fn proposal(rt: &(impl AllocGlobal + Abort), nodes: u32, sign: i128) -> Vec<i128
             let flow = i128::from(nodes - node);
             volts = volts.saturating_add(sign.saturating_mul(flow.saturating_mul(OHM)));
         }
-        let off = if node % 10_000 == 5_000 {
-            sign.saturating_mul(5 * OHM)
+        let off = if (node % 10_000).wrapping_sub(5_000) < neighbours {
+            sign.saturating_mul(VOLT / 1000)
         } else {
             0
         };
@@ -211,9 +211,16 @@ fn proposal(rt: &(impl AllocGlobal + Abort), nodes: u32, sign: i128) -> Vec<i128
 #[test]
 fn a_good_proposal_takes_few_sweeps(rt: HostRuntime) {
     let nodes: u32 = 100_000;
-    let mut solver = Fixed::new(proposal(&rt, nodes, 1), proposal(&rt, nodes, -1));
-    let made = certified(&rt, chain(&rt, nodes), &mut solver);
-    assert!(rt; made.sweeps() <= 4, "{} sweeps", made.sweeps());
+    for (neighbours, most) in [(0u32, 0u64), (1, 2), (10, 2)] {
+        let high = proposal(&rt, nodes, 1, neighbours);
+        let low = proposal(&rt, nodes, -1, neighbours);
+        let made = certified(&rt, chain(&rt, nodes), &mut Fixed::new(high, low));
+        assert!(rt;
+            made.sweeps() <= most,
+            "{} sweeps where {neighbours} neighbours are off",
+            made.sweeps()
+        );
+    }
 }
 
 /// A number from a row of numbers that looks random.

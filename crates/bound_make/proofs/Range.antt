@@ -13,7 +13,7 @@ use Rattle.bound_make.proofs.Raised.{lift_holds, lift_is_below}
 use Rattle.bound_make.proofs.Lift.{least_lift}
 use Rattle.bound_make.proofs.Reach.{allowed_room}
 use Rattle.bound_make.proofs.Turned.{high_from_low, low_from_high}
-use Rattle.grid_net.specs.Laws.Mirror.{mirror_network, pad_out, pad_in, load_in, high_in, ranges_turned}
+use Rattle.grid_net.specs.Laws.Mirror.{mirror_network, pad_out, pad_in, load_in, high_in}
 
 module _ (rule : FlowRule) (of_rule : IsFlowRule rule) (net : Network) (wf : IsNetwork net) (tells : TellsBelow rule (flow_reach net)) (k r : ℕ) (supplied : IsSuppliedWithin net k) (resists : ResistsAtMost net r) where
   -- The least lift.

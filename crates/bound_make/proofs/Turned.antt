@@ -1,11 +1,11 @@
 -- The low half of the test is the high half of the mirrored network.
-use Rattle.std.proofs.Common.{◌≡◌, ℕ, ℤ, neg_ℤ, ◌-ℤ◌, arith}
+use Rattle.std.proofs.Common.{◌≡◌, ℕ, ℤ, neg_ℤ, arith}
 use Rattle.grid_net.specs.Laws.Mirror.{no_pad_out, no_pad_in, pad_out, pad_in, load_in, outflow_turned}
 use Rattle.std.proofs.lemmas.Int.{ints}
-use Rattle.grid_net.specs.Network.{Network, FlowRule, outflow, low_load, high_load, pad_at, first_pad}
+use Rattle.grid_net.specs.Network.{Network, FlowRule}
 use Rattle.bound_make.specs.inside.Raising.{HighHoldsBy, IsTightAbove}
 use Rattle.bound_make.specs.inside.Mirror.{LowHoldsBy, IsTightBelow}
-use Rattle.grid_net.specs.Mirror.{turned_rule, turned_pad, turned_load, mirror}
+use Rattle.grid_net.specs.Mirror.{mirror}
 
 module _ (rule : FlowRule) (net : Network) (x z : ℕ → ℤ) (is : (j : ℕ) → x j ≡ neg_ℤ (z j)) where
   -- x is the negative of z: x satisfies the low half where z satisfies the high half of the mirror.

@@ -1,5 +1,5 @@
 -- The low side, as the high side of the network with every voltage and every load turned in sign.
-use Rattle.std.specs.Prelude.{◌≡◌, ℕ, ◌<◌, ◌+◌, ◌*◌, ℤ, pos, negsuc, neg_ℤ, ◌+ℤ◌, ◌-ℤ◌, ◌≤ℤ◌, map, Some, None}
+use Rattle.std.specs.Prelude.{◌≡◌, ℕ, ◌<◌, ◌*◌, ℤ, pos, negsuc, ◌+ℤ◌, ◌-ℤ◌, ◌≤ℤ◌, Some, None}
 use Rattle.grid_net.specs.Network.{Network, FlowRule, high_load, pad_at, outflow}
 use Rattle.grid_net.specs.Certificate.{most_excess}
 use Rattle.grid_net.specs.Mirror.{turned_rule}

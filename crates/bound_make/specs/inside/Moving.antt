@@ -1,8 +1,8 @@
 -- How a list is moved to a tight one: raised until each sum is at least 1, and then lowered.
-use Rattle.std.specs.Prelude.{◌≡◌, ◌≢◌, ℕ, ◌<◌, ◌+◌, ◌*◌, ℤ, pos, neg_ℤ, ◌+ℤ◌, ◌-ℤ◌, ◌≤ℤ◌, ◌<ℤ◌, List, length, Some, None, unsigned_abs, slice_index_or}
+use Rattle.std.specs.Prelude.{◌≡◌, ◌≢◌, ℕ, ◌<◌, ℤ, pos, neg_ℤ, ◌+ℤ◌, ◌-ℤ◌, ◌≤ℤ◌, ◌<ℤ◌, List, length, Some, None, unsigned_abs, slice_index_or}
 use Rattle.std.specs.List.{sum_by}
 use Rattle.grid_net.specs.declared.part.Resistor.{Resistor}
-use Rattle.grid_net.specs.Network.{Network, FlowRule, outflow, low_load, pad_at, entry_of, degree, other_end}
+use Rattle.grid_net.specs.Network.{Network, FlowRule, outflow, low_load, pad_at, entry_of, other_end}
 use Rattle.grid_net.specs.inside.Flows.{flow_over, no_resistor}
 use Rattle.grid_net.specs.Certificate.{value_limit, flow_limit, most_excess}
 use Rattle.bound_make.specs.inside.Raising.{held_floor, HighHoldsBy}

@@ -2,7 +2,7 @@
 use Rattle.std.specs.Prelude.{◌≡◌, ℕ, ◌<◌, ◌+◌, ◌*◌, ◌≢◌, ℤ, pos, neg_ℤ, ◌+ℤ◌, ◌-ℤ◌, ◌*ℤ◌, ◌≤ℤ◌, ◌<ℤ◌, length, ◌≤◌, ◌^◌, Some, None, negsuc, All}
 use Rattle.std.specs.Int.{int_min, int_max}
 use Rattle.rounding.specs.Rounding.{floor_div}
-use Rattle.grid_net.specs.Network.{total_load, Network, FlowRule, low_load, load_size, pad_at, outflow, degree}
+use Rattle.grid_net.specs.Network.{total_load, Network, FlowRule, low_load, load_size, pad_at, outflow}
 use Rattle.grid_net.specs.Certificate.{most_excess}
 use Rattle.grid_net.specs.Level.{IsWithin}
 

@@ -1,6 +1,5 @@
-use Rattle.std.proofs.Common.{◌<◌, ◌∙◌, sym, length, ℕ, subst, List, All, arith, ap}
+use Rattle.std.proofs.Common.{◌<◌, sym, length, ℕ, subst, List, All, arith, ap}
 use Rattle.grid_net.specs.declared.part.Resistor.{Resistor}
-use Rattle.grid_net.specs.Network.{places_at}
 use Rattle.grid_net.specs.Laws.Flows.{places_are_places}
 use Rattle.bound_make.proofs.work_list.WorkList.push_around.Goals as goal
 

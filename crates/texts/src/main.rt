@@ -5,6 +5,7 @@
 #![tactic(auto)]
 
 mod bias;
+mod cells;
 mod line;
 
 use outside::{LONGEST_TEXT, StdFiles, StdSink, read_whole, send};
@@ -44,6 +45,9 @@ fn word_at(alloc: Global, rt: &(impl Env + AllocGlobal), number: usize) -> io::R
 fn told(alloc: Global, format: &str, text: &[u8]) -> Result<Option<Printed>, AllocError> {
     if format == "bias" {
         return Ok(Some(bias::told(alloc, text)?));
+    }
+    if format == "cells" {
+        return Ok(Some(cells::told(alloc, text)?));
     }
     Ok(None)
 }

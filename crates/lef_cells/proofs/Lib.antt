@@ -1,0 +1,6 @@
+pub mod Words
+pub mod Numbers
+pub mod Law
+pub mod Taking
+pub mod Limits
+pub mod One

@@ -1,0 +1,72 @@
+//! The text of cells as a format.
+ghost use Rattle.std.specs.Prelude.{◌≡◌};
+ghost use Rattle.lef_cells.specs.Format.{format};
+ghost use Rattle.lef_cells.specs.Rule.{pattern};
+ghost use Rattle.lef_cells.specs.Sort.{all_sorts};
+ghost use Rattle.lef_cells.specs.inside.Held.{Holds};
+ghost use Rattle.reading.specs.Grammar.{IsRegular};
+
+use crate::error::CellsKind;
+use crate::fault::{length_fault, second_fault};
+use crate::held::{Held, take_unit};
+use crate::rule::rule;
+use crate::section::Section;
+use crate::sort::{Sort, sort_of};
+use number_place::texts_have_one_number;
+use reading::{Found, Grammar, Rule, Word, found_at};
+use std::alloc::AllocError;
+
+/// The format of the text of cells, which depends on nothing but the text.
+pub(crate) struct CellsFormat;
+
+impl<'a> Grammar<'a> for CellsFormat {
+    type Sort = Sort;
+
+    type Section = Section;
+
+    type Record = Held<'a>;
+
+    type Kind = CellsKind;
+
+    ghost format = { λ cells. format };
+
+    ghost pattern = { pattern };
+
+    ghost holds = { λ cells held units. Holds units held };
+
+    fn sort(&self, _said: &Held<'a>, word: &Word<'a>) -> Sort {
+        sort_of(word)
+    }
+
+    fn section(&self, said: &Held<'a>) -> Section {
+        said.standing.section()
+    }
+
+    fn rule(section: Section) -> Rule<'a, Sort> {
+        rule(section)
+    }
+
+    fn fault(&self, said: &Held<'a>, unit: &[Word<'a>]) -> Option<Found<CellsKind>> {
+        match unit {
+            [first, second] => found_at(1, second_fault(said, sort_of(first), second.text)),
+            [_, _, _, height] => found_at(3, length_fault(height.text)),
+            _ => None,
+        }
+    }
+
+    fn ends(&self, said: &Held<'a>) -> bool {
+        matches!(said.standing.section(), Section::Ended)
+    }
+
+    fn take(&self, said: &mut Held<'a>, unit: &[Word<'a>]) -> Result<(), AllocError> {
+        take_unit(&mut said.said, said.standing.section, said.alloc, unit)?;
+        said.standing.go_on(unit);
+        Ok(())
+    }
+
+    fn regular(&self)
+        ensures { IsRegular all_sorts pattern format }
+    {
+        texts_have_one_number();
+    }
+}

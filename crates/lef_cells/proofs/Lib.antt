@@ -4,3 +4,4 @@ pub mod Law
 pub mod Taking
 pub mod Limits
 pub mod One
+pub mod Joining

@@ -6,4 +6,5 @@ pub mod Fault
 pub mod Record
 pub mod Format
 pub mod Limits
+pub mod Join
 pub mod inside

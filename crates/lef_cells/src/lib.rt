@@ -8,6 +8,7 @@ mod error;
 mod fault;
 mod format;
 mod held;
+mod join;
 mod laws;
 mod number;
 mod read;

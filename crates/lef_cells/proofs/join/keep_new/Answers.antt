@@ -1,0 +1,10 @@
+use Rattle.std.proofs.Common.{◌≡◌, not, filter, rules, ◌∙◌}
+use Rattle.std.proofs.lemmas.Fn.{filter_same}
+use Rattle.lef_cells.specs.Join.{is_among}
+use Rattle.lef_cells.proofs.Joining.{same_without}
+use Rattle.lef_cells.proofs.join.keep_new.Goals as goal
+
+pub returns : goal.returns
+returns g c =
+    filter_same _ (λ x. not (is_among c.in_ok-names.names (g.T.HasName.name_of x))) _ (λ x b f' k. search rules) _ _ c.retain.ensures.filtered
+    ∙ same_without g.T.HasName.name_of c.in_ok-names.names c.args.taken.now c.args.entries.now.items c.in_ok-names.ensures

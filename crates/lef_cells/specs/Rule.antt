@@ -51,7 +51,9 @@ is_other _ = true
 
 -- Sections, `END LIBRARY`, and what is passed over.
 abbrev pub library : Pattern Sort
-library = Or (named Site) (Or (named Macro) (Or (named NamedSection) (Or (Then (One (the End)) (One (the Library))) (One is_other))))
+library =
+    Or (named Site) (Or (named Macro) (Or (named NamedSection)
+    (Or (Then (One (the End)) (One (the Library))) (One is_other))))
 
 -- ## sites
 

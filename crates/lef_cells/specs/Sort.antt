@@ -30,7 +30,8 @@ number_of TextEnd = 16
 
 abbrev pub all_sorts : List Sort
 all_sorts =
-    Site ∷ Macro ∷ NamedSection ∷ WordSection ∷ BeginExt ∷ End ∷ Library ∷ Size ∷ By ∷ Class ∷ Pin ∷ Group ∷ Semicolon ∷ Bracket ∷ Quoted ∷ Other ∷ TextEnd ∷ []
+    Site ∷ Macro ∷ NamedSection ∷ WordSection ∷ BeginExt ∷ End ∷ Library ∷ Size ∷ By ∷ Class ∷ Pin ∷ Group ∷ Semicolon
+    ∷ Bracket ∷ Quoted ∷ Other ∷ TextEnd ∷ []
 
 -- The sort is this one.
 abbrev pub the : Sort → Sort → Bool

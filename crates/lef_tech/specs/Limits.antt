@@ -1,8 +1,6 @@
--- What every technology keeps: its numbers are within their limits, what a rule names stands in it, and names stand
--- once.
-use Rattle.std.specs.Prelude.{◌≡◌, ℕ, ◌<◌, ◌≤◌, ◌^◌, List, All, AllPairs, length, map, Option, MatchOption, Some, None}
+-- What every technology keeps: its numbers are within their limits, and what a rule names stands in it.
+use Rattle.std.specs.Prelude.{◌≡◌, ℕ, ◌<◌, ◌≤◌, ◌^◌, List, All, AllPairs, length, Option, MatchOption, Some, None}
 use Rattle.std.specs.List.{range_with_len, filter_map}
-use Rattle.name_table.specs.Numbering.{AreDistinct}
 use Rattle.lef_tech.specs.declared.layer.LayerRef.{LayerRef}
 use Rattle.lef_tech.specs.declared.layer.LayerRef.TheVariants.{Routing, Cut}
 use Rattle.lef_tech.specs.declared.layer.Density.{Density}
@@ -96,7 +94,7 @@ abbrev pub numbers : ℕ → List ℕ
 numbers n = range_with_len 0 n
 
 -- In the order of all layers those of each type stand once each and in their order. There are fewer than 2^32 routing
--- layers, cut layers and rules. All of them keep their limits, and no two of a kind have one name.
+-- layers, cut layers and rules, and all of them keep their limits.
 pub record TechKeeps (tech : Tech) : Type 0 where
   pub routing_order : filter_map routing_place tech.order ≡ numbers (length tech.routing)
   pub cut_order : filter_map cut_place tech.order ≡ numbers (length tech.cuts)
@@ -106,6 +104,3 @@ pub record TechKeeps (tech : Tech) : Type 0 where
   pub routing : All RoutingKeeps tech.routing
   pub cuts : All CutKeeps tech.cuts
   pub rules : All (RuleKeeps tech) tech.rules
-  pub routing_names : AreDistinct (map (λ layer. layer.name) tech.routing)
-  pub cut_names : AreDistinct (map (λ layer. layer.name) tech.cuts)
-  pub rule_names : AreDistinct (map (λ rule. rule.name) tech.rules)

@@ -1,0 +1,4 @@
+pub mod Rows
+pub mod Rules
+pub mod Counted
+pub mod Joined

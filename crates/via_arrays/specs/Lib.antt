@@ -1,0 +1,9 @@
+pub mod Lengths
+pub mod Extents
+pub mod Choice
+pub mod Cuts
+pub mod Arrays
+pub mod Resistances
+pub mod Pairs
+pub mod Stacks
+pub mod inside

@@ -1,0 +1,20 @@
+//! Arrays of cuts that join two routing layers, stacks of them, and their resistances.
+#![tactic(auto)]
+
+mod arrays;
+mod choice;
+mod cuts;
+mod error;
+mod extents;
+mod lengths;
+mod pairs;
+mod parts;
+mod resistances;
+mod stacks;
+
+pub use arrays::array;
+pub use choice::choose_rule;
+pub use error::{ArrayError, StackError};
+pub use parts::{CutArray, Stack};
+pub use resistances::resistance;
+pub use stacks::stack;

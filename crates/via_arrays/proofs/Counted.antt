@@ -1,5 +1,5 @@
 -- Counts and arrays by the lengths of a rule along an axis.
-use Rattle.std.proofs.Common.{◌≡◌, ℕ, max, subst, sym, ◌∙◌, ap}
+use Rattle.std.proofs.Common.{◌≡◌, ℕ, max, subst, ◌∙◌, ap}
 use Rattle.geom_rect.specs.declared.direction.Axis.{Axis}
 use Rattle.geom_rect.specs.declared.direction.Axis.TheVariants.{X, Y}
 use Rattle.geom_rect.specs.declared.rect.Rect.{Rect}

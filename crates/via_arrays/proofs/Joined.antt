@@ -1,5 +1,5 @@
 -- One more pair of a stack, and the first that is not joined.
-use Rattle.std.proofs.Common.{◌≡◌, ℕ, zero, suc, refl, ◌+◌, ◌-◌, ◌<◌, ◌≤◌, ◌⊎◌, inl, inr, List, [], ◌∷◌, ◌++◌, length, slice_get, Option, Some, length-append, subst, sym, ◌∙◌, Result, MatchResult, arith}
+use Rattle.std.proofs.Common.{◌≡◌, ℕ, zero, suc, refl, ◌+◌, ◌-◌, ◌<◌, ◌≤◌, ◌⊎◌, inl, inr, List, [], ◌∷◌, ◌++◌, length, slice_get, Some, length-append, subst, sym, ◌∙◌, Result, MatchResult, arith}
 use Rattle.std.specs.Result.{IsErrAnd}
 use Rattle.std.specs.declared.result.Result.TheVariants.{Ok, Err}
 use Rattle.std.proofs.lemmas.Bool.{cases_lt}
@@ -48,7 +48,8 @@ one_more tech crossing units max_columns max_rows from count made ohms array r a
         let is_ohms : r ≡ o = slice_get_last ohms r o k (omega (arith, are.of_ohms)) in_ohms in
         subst (λ x. P k x o) is_array (subst (P k array) is_ohms (subst (λ n. P n array r) (sym last) pair))
 
-element : {X : Type 0} (xs : List X) (k : ℕ) → k < length xs → (x : X) × (slice_get xs k ≡ Some x)
+-- The element at a place within a list.
+pub element : {X : Type 0} (xs : List X) (k : ℕ) → k < length xs → (x : X) × (slice_get xs k ≡ Some x)
 element xs k within = elim (slice_get_cases xs k).1 [ inl is ↦ (is.0, is.2) | inr past ↦ absurd (omega (arith, past.0)) ]
 
 -- A refused pair above those that are joined.

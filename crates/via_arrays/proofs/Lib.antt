@@ -1,4 +1,8 @@
 pub mod Rows
 pub mod Rules
 pub mod Counted
+pub mod Division
 pub mod Joined
+pub mod Single
+pub mod Whole
+pub mod Tested

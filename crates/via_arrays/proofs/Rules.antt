@@ -1,5 +1,5 @@
 -- Rules by their numbers.
-use Rattle.std.proofs.Common.{◌≡◌, ℕ, ◌+◌, ◌<◌, ◌≤◌, ◌⊎◌, inl, inr, length, get_or, slice_get, Option, Some, subst, sym, ◌∙◌, ap, arith}
+use Rattle.std.proofs.Common.{◌≡◌, ℕ, ◌+◌, ◌<◌, ◌≤◌, ◌⊎◌, inl, inr, length, get_or, Some, subst, sym, ◌∙◌, arith}
 use Rattle.std.proofs.lemmas.Bool.{cases_lt}
 use Rattle.std.proofs.lemmas.Option.{slice_get_read}
 use Rattle.geom_rect.specs.declared.rect.Rect.{Rect}
@@ -28,4 +28,4 @@ none_more tech lower upper crossing units place rule none is not_here k other be
     by_place (inr here) =
         let same : k ≡ place = omega arith in
         not_here (subst (Suits tech lower upper crossing units)
-            (rule_unique tech place other rule (subst (λ n. IsRule tech n other) same at) is) suits)
+        (rule_unique tech place other rule (subst (λ n. IsRule tech n other) same at) is) suits)

@@ -1,5 +1,5 @@
 -- Cuts in a row along an axis (LEF/DEF 5.8 Language Reference, VIARULE GENERATE: RECT, SPACING and ENCLOSURE).
-use Rattle.std.specs.Prelude.{ℕ, ◌+◌, ◌-◌, ◌*◌, ◌<◌, ◌≤◌, ℤ, pos, ◌+ℤ◌, ◌-ℤ◌, ◌≤ℤ◌}
+use Rattle.std.specs.Prelude.{ℕ, ◌+◌, ◌-◌, ◌*◌, ◌/◌, ◌<◌, ◌≤◌, nat_lt, if◌then◌else◌, ℤ, pos, ◌+ℤ◌, ◌-ℤ◌, ◌≤ℤ◌}
 
 -- The length of a row of n cuts, from the lower edge of the first to the upper edge of the last.
 abbrev pub row_length : ℕ → ℕ → ℕ → ℕ
@@ -24,3 +24,9 @@ pub record IsMost (limit extent cut pitch enclosure n : ℕ) : Type 0 where
   pub upto : n ≤ limit
   pub fit : Fit extent cut pitch enclosure n
   pub most : (m : ℕ) → n < m → m ≤ limit → ¬ Fit extent cut pitch enclosure m
+
+-- How many cuts one division gives: the pitches in what a cut and its enclosures leave of the extent, and one more; none
+-- where they leave less than nothing.
+abbrev pub count_by_division : ℕ → ℕ → ℕ → ℕ → ℕ
+count_by_division extent cut pitch enclosure =
+    if nat_lt extent (cut + 2 * enclosure) then 0 else (extent - (cut + 2 * enclosure)) / pitch + 1

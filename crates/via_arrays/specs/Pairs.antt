@@ -50,7 +50,7 @@ IsPairRefused tech crossing units max_columns max_rows layer (OffGrid k) =
     (λ place. (k ≡ place) × IsArrayRefused tech place crossing units max_columns max_rows arrays.OffGrid)
 IsPairRefused tech crossing units max_columns max_rows layer (NoCutFits k) = (k ≡ layer)
     × FirstRuleHas tech crossing units layer
-      (λ place. IsArrayRefused tech place crossing units max_columns max_rows arrays.NoCutFits)
+    (λ place. IsArrayRefused tech place crossing units max_columns max_rows arrays.NoCutFits)
 IsPairRefused tech crossing units max_columns max_rows layer (NoResistance k) = (k ≡ layer)
     × FirstRuleHas tech crossing units layer (HasOnlyCuts tech crossing units max_columns max_rows)
 IsPairRefused tech crossing units max_columns max_rows layer Want = ⊥

@@ -2,3 +2,4 @@ pub mod Lengths
 pub mod Cuts
 pub mod Pairs
 pub mod Stacks
+pub mod Tested

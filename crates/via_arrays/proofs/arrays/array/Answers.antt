@@ -1,4 +1,4 @@
-use Rattle.std.proofs.Common.{rules, ◌≡◌, ◌<◌, inl, inr, subst, sym, ap, arith}
+use Rattle.std.proofs.Common.{rules, ◌≡◌, inl, inr, subst, sym, ap, arith}
 use Rattle.geom_rect.specs.declared.direction.Axis.TheVariants.{X, Y}
 use Rattle.via_arrays.specs.declared.parts.CutArray.{CutArray}
 use Rattle.via_arrays.specs.Arrays.{IsCount, array_of}
@@ -23,8 +23,9 @@ returns-then-columns-eq0 c =
       (
         search rules,
         elim c.then-columns-eq0.either [
-          inl none ↦ inl (subst (IsCount tech rule c.args.units X c.args.crossing c.args.max_columns) none in_x)
-        | inr none ↦ inr (subst (IsCount tech rule c.args.units Y c.args.crossing c.args.max_rows) none.1 in_y) ],
+          | inl none ↦ inl (subst (IsCount tech rule c.args.units X c.args.crossing c.args.max_columns) none in_x)
+          | inr none ↦ inr (subst (IsCount tech rule c.args.units Y c.args.crossing c.args.max_rows) none.1 in_y)
+        ],
       ),
     )
 

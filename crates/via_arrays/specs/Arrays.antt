@@ -13,8 +13,8 @@ use Rattle.via_arrays.specs.Extents.{extent}
 use Rattle.via_arrays.specs.Choice.{direction, IsRule}
 use Rattle.via_arrays.specs.Cuts.{IsMost}
 
--- The enclosure along an axis of a layer of this direction: the larger of its two numbers along the layer's direction, the
--- smaller across it.
+-- The enclosure along an axis of a layer of this direction: the larger of its two numbers along the layer's direction,
+-- the smaller across it.
 abbrev pub enclosure_along : Axis → Axis → ℕ × ℕ → ℕ
 enclosure_along X X enclosure = max enclosure.0 enclosure.1
 enclosure_along X Y enclosure = min enclosure.0 enclosure.1
@@ -41,8 +41,8 @@ abbrev pub pitch_along : ViaRule → ℕ → Axis → ℕ
 pitch_along rule units X = in_units units rule.pitch_x
 pitch_along rule units Y = in_units units rule.pitch_y
 
--- n is the greatest number of the rule's cuts that fit into the crossing along an axis, up to a limit, with the greater of
--- the two layers' enclosures.
+-- n is the greatest number of the rule's cuts that fit into the crossing along an axis, up to a limit, with the greater
+-- of the two layers' enclosures.
 abbrev pub IsCount : Tech → ViaRule → ℕ → Axis → Rect → ℕ → ℕ → Type 0
 IsCount tech rule units axis crossing limit n =
     IsMost limit (extent axis crossing) (cut_along rule units axis) (pitch_along rule units axis)
@@ -64,8 +64,8 @@ array_of tech rule units place columns rows = record {
   upper_y = pos (upper_along tech rule units Y);
 }
 
--- The array of the rule of this number at a crossing: its lengths are whole numbers of units, as many columns and as many
--- rows as fit stand in it, and it has a cut.
+-- The array of the rule of this number at a crossing: its lengths are whole numbers of units, as many columns and as
+-- many rows as fit stand in it, and it has a cut.
 pub record IsArray (tech : Tech) (place : ℕ) (crossing : Rect) (units max_columns max_rows : ℕ) (array : CutArray)
     : Type 0 where
   pub rule : ViaRule

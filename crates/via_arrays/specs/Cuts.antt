@@ -5,7 +5,7 @@ use Rattle.std.specs.Prelude.{ℕ, ◌+◌, ◌-◌, ◌*◌, ◌/◌, ◌<◌, 
 abbrev pub row_length : ℕ → ℕ → ℕ → ℕ
 row_length cut pitch n = cut + (n - 1) * pitch
 
--- A row of n cuts stands in the middle of an extent. Where in the extent the lower edge of its cut of number k begins, in
+-- A row of n cuts stands in the middle of an extent. How far above the extent's lower end its cut of number k begins, in
 -- half units, since the middle may lie between two units.
 abbrev pub half_units_to : ℕ → ℕ → ℕ → ℕ → ℕ → ℤ
 half_units_to extent cut pitch n k = (pos extent -ℤ pos (row_length cut pitch n)) +ℤ pos (2 * (k * pitch))
@@ -25,8 +25,8 @@ pub record IsMost (limit extent cut pitch enclosure n : ℕ) : Type 0 where
   pub fit : Fit extent cut pitch enclosure n
   pub most : (m : ℕ) → n < m → m ≤ limit → ¬ Fit extent cut pitch enclosure m
 
--- How many cuts one division gives: the pitches in what a cut and its enclosures leave of the extent, and one more; none
--- where they leave less than nothing.
+-- How many cuts one division gives: the pitches in what a cut and its enclosures leave of the extent, and one more;
+-- none where they leave less than nothing.
 abbrev pub count_by_division : ℕ → ℕ → ℕ → ℕ → ℕ
 count_by_division extent cut pitch enclosure =
     if nat_lt extent (cut + 2 * enclosure) then 0 else (extent - (cut + 2 * enclosure)) / pitch + 1

@@ -33,15 +33,17 @@ pub record IsPair (tech : Tech) (crossing : Rect) (units max_columns max_rows la
 
 -- What the first rule that suits a layer and the next one has.
 abbrev pub FirstRuleHas : Tech → Rect → ℕ → ℕ → (ℕ → Type 0) → Type 0
-FirstRuleHas tech crossing units layer P = (place : ℕ) × IsFirstRule tech layer (layer + 1) crossing units place × P place
+FirstRuleHas tech crossing units layer P =
+    (place : ℕ) × IsFirstRule tech layer (layer + 1) crossing units place × P place
 
 -- The rule of this number gives an array at the crossing, and a cut of it has no resistance.
 abbrev pub HasOnlyCuts : Tech → Rect → ℕ → ℕ → ℕ → ℕ → Type 0
 HasOnlyCuts tech crossing units max_columns max_rows place =
     ((array : CutArray) × IsArray tech place crossing units max_columns max_rows array) × HasNoResistance tech place
 
--- Why a layer and the next one are not joined: no rule suits, or the first that suits gives no array, or it gives one and a
--- cut of it has no resistance. The error names the lower layer, or the rule whose length is no whole number of units.
+-- Why a layer and the next one are not joined: no rule suits, or the first that suits gives no array, or it gives one
+-- and a cut of it has no resistance. The error names the lower layer, or the rule whose length is no whole number of
+-- units.
 abbrev pub IsPairRefused : Tech → Rect → ℕ → ℕ → ℕ → ℕ → StackError → Type 0
 IsPairRefused tech crossing units max_columns max_rows layer (NoRule k) = (k ≡ layer)
     × NoneSuits tech layer (layer + 1) crossing units

@@ -16,8 +16,8 @@ abbrev pub first_stated : Option ℕ → Option ℕ → Option ℕ
 first_stated (Some a) b = Some a
 first_stated None b = b
 
--- The resistance of a cut of a rule: the rule's own, else that of its cut layer (LEF/DEF 5.8 Language Reference, RESISTANCE
--- of a VIARULE GENERATE and of a cut layer).
+-- The resistance of a cut of a rule: the rule's own, else that of its cut layer (LEF/DEF 5.8 Language Reference,
+-- RESISTANCE of a VIARULE GENERATE and of a cut layer).
 abbrev pub per_cut_of : Tech → ViaRule → Option ℕ
 per_cut_of tech rule =
     first_stated rule.per_cut (slice_index_or (map (λ (layer : CutLayer). layer.per_cut) tech.cuts) rule.cut None)

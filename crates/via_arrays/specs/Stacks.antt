@@ -15,8 +15,8 @@ pub record IsStack (tech : Tech) (crossing : Rect) (units max_columns max_rows f
   pub highest : stack.to ≡ to
   pub arrays : length stack.arrays ≡ to - from
   pub ohms : length stack.ohms ≡ to - from
-  pub each : (k : ℕ) (array : CutArray) (r : ℕ) → slice_get stack.arrays k ≡ Some array → slice_get stack.ohms k ≡ Some r
-      → IsPair tech crossing units max_columns max_rows (from + k) array r
+  pub each : (k : ℕ) (array : CutArray) (r : ℕ) → slice_get stack.arrays k ≡ Some array
+      → slice_get stack.ohms k ≡ Some r → IsPair tech crossing units max_columns max_rows (from + k) array r
 
 -- A layer and the next one are joined.
 abbrev pub IsJoined : Tech → Rect → ℕ → ℕ → ℕ → ℕ → Type 0

@@ -6,8 +6,8 @@ use Rattle.via_arrays.specs.declared.parts.CutArray.{CutArray}
 use Rattle.via_arrays.specs.Pairs.{IsPair}
 
 -- The arrays and resistances of `count` layers from `from` on.
-pub record ArePairs (tech : Tech) (crossing : Rect) (units max_columns max_rows from count : ℕ) (arrays : List CutArray) (ohms : List ℕ)
-    : Type 0 where
+pub record ArePairs (tech : Tech) (crossing : Rect) (units max_columns max_rows from count : ℕ) (arrays : List CutArray)
+    (ohms : List ℕ) : Type 0 where
   pub of_arrays : length arrays ≡ count
   pub of_ohms : length ohms ≡ count
   pub each : (k : ℕ) (array : CutArray) (r : ℕ) → slice_get arrays k ≡ Some array → slice_get ohms k ≡ Some r

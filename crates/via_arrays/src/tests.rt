@@ -80,7 +80,7 @@ fn fits(rule: &ViaRule) -> bool
 
 // A rule with a name, where it keeps what a rule keeps.
 fn rule(alloc: Global, name: &[u8], said: Said) -> Result<Option<ViaRule>, AllocError>
-    ensures { IfOk result (λ made. IfSome made (λ rule. (rule.name ≡ name.now) × RuleFits rule)) }
+    ensures { IfOk result (λ made. IfSome made RuleFits) }
 {
     let rule = ViaRule {
         name: Name::new(alloc, name)?,
@@ -101,7 +101,7 @@ fn rule(alloc: Global, name: &[u8], said: Said) -> Result<Option<ViaRule>, Alloc
 }
 
 fn routing(alloc: Global, name: &[u8], direction: Axis) -> Result<RoutingLayer, AllocError>
-    ensures { IfOk result (λ layer. (layer.name ≡ name.now) × RoutingKeeps layer) }
+    ensures { IfOk result RoutingKeeps }
 {
     Ok(RoutingLayer {
         name: Name::new(alloc, name)?,
@@ -114,7 +114,7 @@ fn routing(alloc: Global, name: &[u8], direction: Axis) -> Result<RoutingLayer, 
 
 fn cut(alloc: Global, name: &[u8], per_cut: Option<u64>) -> Result<CutLayer, AllocError>
     requires { Keeps IsOhms per_cut }
-    ensures { IfOk result (λ layer. (layer.name ≡ name.now) × CutKeeps layer) }
+    ensures { IfOk result CutKeeps }
 {
     Ok(CutLayer {
         name: Name::new(alloc, name)?,

@@ -1,5 +1,5 @@
 -- A technology of four routing layers, three cut layers and three rules, for tests.
-use Rattle.std.specs.Prelude.{◌≡◌, ℕ, ◌<◌, ◌≤◌, List, [], ◌∷◌, All, map, length}
+use Rattle.std.specs.Prelude.{◌≡◌, ◌<◌, ◌≤◌, List, [], ◌∷◌, All, length}
 use Rattle.lef_tech.specs.Limits.{Keeps, IsOhms, RoutingKeeps, CutKeeps, TechKeeps}
 use Rattle.lef_tech.specs.declared.layer.LayerRef.{LayerRef}
 use Rattle.lef_tech.specs.declared.layer.LayerRef.TheVariants.{Routing, Cut}
@@ -25,28 +25,20 @@ pub record RuleFits (rule : ViaRule) : Type 0 where
 abbrev pub tested_order : List LayerRef
 tested_order = Routing 0 ∷ Cut 0 ∷ Routing 1 ∷ Cut 1 ∷ Routing 2 ∷ Cut 2 ∷ Routing 3 ∷ []
 
--- Three names of one byte.
-abbrev pub three_names : List (List ℕ)
-three_names = (49 ∷ []) ∷ (50 ∷ []) ∷ (51 ∷ []) ∷ []
-
--- Four names of one byte.
-abbrev pub four_names : List (List ℕ)
-four_names = (49 ∷ []) ∷ (50 ∷ []) ∷ (51 ∷ []) ∷ (52 ∷ []) ∷ []
-
--- The routing layers: they keep their limits, and have these names.
+-- Four routing layers that keep their limits.
 pub record AreLayers (layers : List RoutingLayer) : Type 0 where
   pub keep : All RoutingKeeps layers
-  pub names : map (λ (layer : RoutingLayer). layer.name) layers ≡ four_names
+  pub count : length layers ≡ 4
 
--- The cut layers.
+-- Three cut layers that do.
 pub record AreCuts (cuts : List CutLayer) : Type 0 where
   pub keep : All CutKeeps cuts
-  pub names : map (λ (layer : CutLayer). layer.name) cuts ≡ three_names
+  pub count : length cuts ≡ 3
 
--- The rules.
+-- Three rules that fit.
 pub record AreRules (rules : List ViaRule) : Type 0 where
   pub fit : All RuleFits rules
-  pub names : map (λ (rule : ViaRule). rule.name) rules ≡ three_names
+  pub count : length rules ≡ 3
 
 -- The technology keeps what all keep, and has these layers and rules.
 pub record IsTested (tech : Tech) : Type 0 where

@@ -1,4 +1,4 @@
-use Rattle.std.proofs.Common.{◌≡◌, [], ◌∷◌, IfSome, Option, subst}
+use Rattle.std.proofs.Common.{IfSome, Option, subst}
 use Rattle.lef_tech.specs.declared.rule.ViaRule.{ViaRule}
 use Rattle.via_arrays.specs.inside.Tested.{RuleFits}
 use Rattle.via_arrays.proofs.Tested.{three_rules}
@@ -7,6 +7,6 @@ use Rattle.via_arrays.proofs.tests.rules.Goals as goal
 pub returns : goal.returns
 returns c =
     three_rules c.in-Some.first c.in-Some-2.second c.in-Some-3.third c.in_ok-vec.field-0.items c.in_ok-vec.ensures.items
-    (subst (λ (o : Option ViaRule). IfSome o (λ (rule : ViaRule). (rule.name ≡ 49 ∷ []) × RuleFits rule)) c.in-Some.is c.in_ok-first.ensures)
-    (subst (λ (o : Option ViaRule). IfSome o (λ (rule : ViaRule). (rule.name ≡ 50 ∷ []) × RuleFits rule)) c.in-Some-2.is c.in_ok-second.ensures)
-    (subst (λ (o : Option ViaRule). IfSome o (λ (rule : ViaRule). (rule.name ≡ 51 ∷ []) × RuleFits rule)) c.in-Some-3.is c.in_ok-third.ensures)
+    (subst (λ (o : Option ViaRule). IfSome o RuleFits) c.in-Some.is c.in_ok-first.ensures)
+    (subst (λ (o : Option ViaRule). IfSome o RuleFits) c.in-Some-2.is c.in_ok-second.ensures)
+    (subst (λ (o : Option ViaRule). IfSome o RuleFits) c.in-Some-3.is c.in_ok-third.ensures)

@@ -11,7 +11,7 @@ use Rattle.bias_file.specs.declared.record.Amps.{Amps}
 use Rattle.bias_file.specs.declared.held.Lists.{Lists}
 use Rattle.bias_file.specs.Rule.{name_on}
 use Rattle.bias_file.specs.Number.{volts, drop_volts, amperes, micrometres}
-use Rattle.bias_file.specs.Limits.{KeepsLimits, SupplyKeeps, DropLimitKeeps, PadKeeps, AmpsKeep}
+use Rattle.bias_file.specs.Limits.{BiasKeeps, SupplyKeeps, DropLimitKeeps, PadKeeps, AmpsKeep}
 use Rattle.bias_file.specs.Record.{SaysSupply, SaysDropLimit, SaysAmps, SaysPad}
 use Rattle.bias_file.specs.inside.Held.{HoldsLists}
 use Rattle.entry_list.specs.Laws.{in-turn-all}
@@ -69,7 +69,7 @@ amps_name line amps h = absurd h
 
 pub lists_kept : Limited → Signed → (units : List (List Token)) (lists : Lists) (bias : Bias) → HoldsLists units lists → bias.supplies ≡ lists.supplies.entries → bias.drops ≡ lists.drops.entries →
     bias.pads ≡ lists.pads.items → bias.cells ≡ lists.cells.entries → bias.instances ≡ lists.instances.entries → AreDistinct lists.supplies.names → AreDistinct lists.drops.names →
-    AreDistinct lists.cells.names → AreDistinct lists.instances.names → KeepsLimits bias
+    AreDistinct lists.cells.names → AreDistinct lists.instances.names → BiasKeeps bias
 lists_kept l s units lists bias h supplies drops pads cells instances one two three four = record {
   supplies = subst (λ z. All SupplyKeeps z) (sym supplies) (in-turn-all SaysSupply SupplyKeeps (supply_kept l) _ _ h.supplies.entries);
   drops = subst (λ z. All DropLimitKeeps z) (sym drops) (in-turn-all SaysDropLimit DropLimitKeeps (limit_kept l s) _ _ h.drops.entries);

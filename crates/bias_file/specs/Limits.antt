@@ -25,7 +25,7 @@ abbrev pub AmpsKeep : Amps → Type 0
 AmpsKeep amps = (pos 0 ≤ℤ amps.low) × (amps.low ≤ℤ amps.high) × (amps.high ≤ℤ pos (10 ^ 18))
 
 -- Of each kind of entry all keep their limits, and no two are of one net, one macro or one component; pads may repeat.
-pub record KeepsLimits (bias : Bias) : Type 0 where
+pub record BiasKeeps (bias : Bias) : Type 0 where
   pub supplies : All SupplyKeeps bias.supplies
   pub drops : All DropLimitKeeps bias.drops
   pub pads : All PadKeeps bias.pads

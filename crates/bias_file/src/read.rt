@@ -1,6 +1,6 @@
 ghost use Rattle.std.specs.Prelude.{◌≡◌, List, IfOk};
 ghost use Rattle.bias_file.specs.Format.{ReadsBias};
-ghost use Rattle.bias_file.specs.Limits.{KeepsLimits};
+ghost use Rattle.bias_file.specs.Limits.{BiasKeeps};
 ghost use Rattle.bias_file.specs.Record.{IsBias};
 ghost use Rattle.bias_file.specs.inside.Held.{HoldsLists};
 ghost use Rattle.reading.specs.Word.{Token};
@@ -25,7 +25,7 @@ use text_lex::Mode;
 /// memory.
 pub fn read_bias(alloc: Global, text: &[u8]) -> Result<Bias, BiasError>
     ensures reads { ReadsBias text.now result }
-    ensures keeps { IfOk result KeepsLimits }
+    ensures keeps { IfOk result BiasKeeps }
 {
     let Ok(mut held) = Held::new(alloc) else {
         return Err(ReadError::want());
@@ -39,7 +39,7 @@ pub fn read_bias(alloc: Global, text: &[u8]) -> Result<Bias, BiasError>
 /// The record of what the lines say.
 fn bias_of(lists: Lists<'_>) -> Bias
     ensures is { (units : List (List Token)) → HoldsLists units lists.entry → IsBias units result }
-    ensures keeps { (units : List (List Token)) → HoldsLists units lists.entry → KeepsLimits result }
+    ensures keeps { (units : List (List Token)) → HoldsLists units lists.entry → BiasKeeps result }
 {
     values_fit_their_places();
     Bias {

@@ -12,7 +12,7 @@ use Rattle.lef_cells.specs.declared.record.Site.{Site}
 use Rattle.lef_cells.specs.declared.section.Section.{Section}
 use Rattle.lef_cells.specs.declared.section.Section.TheVariants as places
 use Rattle.lef_cells.specs.declared.sort.Sort.TheVariants as sorts
-use Rattle.lef_cells.specs.Limits.{KeepsLimits, SiteKeeps, MacroKeeps}
+use Rattle.lef_cells.specs.Limits.{CellsKeep, SiteKeeps, MacroKeeps}
 use Rattle.lef_cells.specs.Number.{length}
 use Rattle.lef_cells.specs.Record.{SaysSize, SaysSite, SaysMacro, IsCells}
 use Rattle.lef_cells.specs.Rule.{is_head, sections, name_of}
@@ -50,7 +50,7 @@ cells_is units said cells h sites macros = record {
 
 pub cells_kept : Limited → (units : List (List Token)) (said : Sections) (cells : Cells) → HoldsAll (blocks is_head units) said →
     cells.sites ≡ said.sites.entries → cells.macros ≡ said.macros.entries → AreDistinct said.sites.names → AreDistinct said.macros.names →
-    KeepsLimits cells
+    CellsKeep cells
 cells_kept limited units said cells h sites macros one two = record {
   sites = subst (λ z. All SiteKeeps z) (sym sites) (in-turn-all SaysSite SiteKeeps (site_kept limited) _ _ h.sites.entries);
   macros = subst (λ z. All MacroKeeps z) (sym macros) (in-turn-all SaysMacro MacroKeeps (macro_kept limited) _ _ h.macros.entries);

@@ -15,7 +15,7 @@ abbrev pub MacroKeeps : MacroCell → Type 0
 MacroKeeps cell = (cell.width ≤ 10 ^ 11) × (cell.height ≤ 10 ^ 11)
 
 -- All sites and macros keep their limits, no two sites have one name, and no two macros.
-pub record KeepsLimits (cells : Cells) : Type 0 where
+pub record CellsKeep (cells : Cells) : Type 0 where
   pub sites : All SiteKeeps cells.sites
   pub macros : All MacroKeeps cells.macros
   pub site_names : AreDistinct (map (λ site. site.name) cells.sites)

@@ -1,7 +1,7 @@
 //! The cells of two libraries as one record.
 ghost use Rattle.std.specs.Prelude.{◌≡◌, ◌↔◌, ℕ, List, map, not, Contains, IfOk, OnOk};
 ghost use Rattle.lef_cells.specs.Join.{is_among, without, joined};
-ghost use Rattle.lef_cells.specs.Limits.{KeepsLimits};
+ghost use Rattle.lef_cells.specs.Limits.{CellsKeep};
 
 use crate::record::{Cells, MacroCell, Site};
 use entry_list::Entries;
@@ -88,7 +88,7 @@ impl Cells {
     pub fn join(self, other: Cells) -> Result<Cells, AllocError>
         ensures sites { IfOk result (λ cells. cells.sites ≡ joined (λ site. site.name) self.sites other.sites) }
         ensures macros { IfOk result (λ cells. cells.macros ≡ joined (λ cell. cell.name) self.macros other.macros) }
-        ensures keeps { IfOk result (λ cells. KeepsLimits self → KeepsLimits other → KeepsLimits cells) }
+        ensures keeps { IfOk result (λ cells. CellsKeep self → CellsKeep other → CellsKeep cells) }
     {
         Ok(Cells {
             sites: joined(self.sites, other.sites)?,

@@ -1,6 +1,6 @@
 ghost use Rattle.std.specs.Prelude.{◌≡◌, List, IfOk, IfErr};
 ghost use Rattle.lef_cells.specs.Format.{ReadsCells};
-ghost use Rattle.lef_cells.specs.Limits.{KeepsLimits};
+ghost use Rattle.lef_cells.specs.Limits.{CellsKeep};
 ghost use Rattle.lef_cells.specs.Record.{IsCells};
 ghost use Rattle.lef_cells.specs.inside.Held.{Holds};
 ghost use Rattle.reading.specs.Word.{Token};
@@ -27,7 +27,7 @@ use text_lex::Mode;
 /// memory.
 pub fn read_cells(alloc: Global, text: &[u8]) -> Result<Cells, CellsError>
     ensures reads { ReadsCells text.now result }
-    ensures keeps { IfOk result KeepsLimits }
+    ensures keeps { IfOk result CellsKeep }
 {
     let Ok(mut held) = Held::new(alloc) else {
         return Err(ReadError::want());
@@ -39,7 +39,7 @@ pub fn read_cells(alloc: Global, text: &[u8]) -> Result<Cells, CellsError>
 /// The record of what the sections say, none of which is open where the text has ended.
 fn cells_of(held: Held<'_>) -> Result<Cells, CellsError>
     ensures is { (units : List (List Token)) → Holds units held.entry → IfOk result (IsCells units) }
-    ensures keeps { (units : List (List Token)) → Holds units held.entry → IfOk result KeepsLimits }
+    ensures keeps { (units : List (List Token)) → Holds units held.entry → IfOk result CellsKeep }
     ensures want { IfErr result (λ error. error.kind ≡ CellsKind.Want) }
 {
     values_fit_their_places();

@@ -1,0 +1,3 @@
+pub mod FoldedLemmas
+pub mod KeyLemmas
+pub mod EntryLemmas

@@ -1,0 +1,42 @@
+use super::*;
+use std::test::Fail;
+
+// Names in the order in which they come, with the number of each, counted by hand.
+const NAMES: [(&[u8], u32); 9] = [
+    (b"n1_0_0", 0),
+    (b"N1_0_0", 0),
+    (b"__", 1),
+    (b"Zed", 2),
+    (b"a_name_of_more_than_24_bytes", 3),
+    (b"A_NAME_of_more_than_24_bytes", 3),
+    (b"a_name_of_more_than_24_bits", 4),
+    (b"\xc4", 5),
+    (b"zED", 2),
+];
+
+#[test]
+fn numbered_and_ordered(rt: HostRuntime) -> Result<(), Fail> {
+    let mut table = NodeNames::with_capacity(rt.alloc(), 4)?;
+    assert!(rt; table.is_empty());
+    for (name, want) in NAMES {
+        assert_eq!(rt; table.number(name)?, want, "at {name:?}");
+    }
+    assert_eq!(rt; table.len(), 6);
+    assert!(rt; table.contains(b"ZED"));
+    assert!(rt; !table.contains(b"\xe4"));
+    let ordered = table.ordered(rt.alloc())?;
+    let want: [&[u8]; 6] = [
+        b"__",
+        b"a_name_of_more_than_24_bits",
+        b"a_name_of_more_than_24_bytes",
+        b"n1_0_0",
+        b"zed",
+        b"\xc4",
+    ];
+    assert_eq!(rt; ordered.names.len(), want.len());
+    for (name, bytes) in ordered.names.iter().zip(want) {
+        assert_eq!(rt; name.bytes(), bytes);
+    }
+    assert_eq!(rt; ordered.places.as_slice(), [3, 0, 4, 2, 1, 5].as_slice());
+    Ok(())
+}

@@ -1,6 +1,7 @@
 -- What the test of a key says of the names of a table. K is a key, and `named` its name.
-use Rattle.std.proofs.Common.{IsTrue, ◌↔◌, ◌≡◌, ℕ, ◌<◌, Bool, true, false, ◌||◌, inl, inr, List, [], ◌∷◌, ◌++◌, Some, map, length, get_or, slice_get, if◌then◌else◌, Contains, refl, sym, ap, ◌∙◌, true≢false, position, arith}
-use Rattle.std.specs.List.{list_any, IsDistinct}
+use Rattle.std.proofs.Common.{IsTrue, ◌↔◌, ◌≡◌, ℕ, ◌<◌, Bool, true, false, ◌||◌, inl, inr, List, [], ◌∷◌, ◌++◌, ◌+◌, cond, Some, map, length, get_or, slice_get, if◌then◌else◌, Contains, refl, sym, ap, ◌∙◌, true≢false, position, arith}
+use Rattle.std.specs.Prelude.{None, not, nat_lt}
+use Rattle.std.specs.List.{list_any, prefix_len, IsDistinct}
 use Rattle.std.specs.Str.{bytes_eq}
 use Rattle.std.specs.Option.{option_map}
 use Rattle.std.proofs.lemmas.List.{get_or-map, length-map, map_push}
@@ -50,6 +51,17 @@ module _ {K : Type 0} (named : K → List ℕ) where
   name_at_first keys i key e =
       let first = position-Some (λ k. bytes_eq (named key) (named k)) keys i key e in
       name_there keys i key (get_or keys i key) (slice_get-get_or keys i key first.0) first.1
+
+  -- A place among the keys is the place among their names.
+  first_named : (p : List ℕ → Bool) (keys : List K) → prefix_len (λ k. p (named k)) keys ≡ prefix_len p (map named keys)
+  first_named p [] = refl
+  first_named p (k ∷ ks) = ap (λ n. cond (p (named k)) (1 + n) 0) (first_named p ks)
+
+  pub position_named : (p : List ℕ → Bool) (keys : List K) → position (λ k. p (named k)) keys ≡ position p (map named keys)
+  position_named p keys =
+      let count = sym (length-map keys named) in
+      let first = first_named (λ n. not (p n)) keys in
+      λ i. cond (nat_lt (first i) (count i)) (Some (first i)) None
 
   -- The names after a key is inserted.
   pub takes : (keys : List K) (key : K) → TakesName (map named keys) (map named (if list_any (is_one key) keys then keys else (keys ++ key ∷ []))) (named key)

@@ -1,6 +1,7 @@
 //! The table of the names of nodes, and the names in byte order.
 ghost use Rattle.std.specs.List.{enumerate_from};
-ghost use Rattle.std.specs.Prelude.{◌≡◌, ℕ, ◌-◌, ◌<◌, ◌^◌, ◌↔◌, List, [], map, length, slice_get, slice_index, All, Contains, EachIndex, IfOk, IsPermutation, IsSorted, IsTrue, OnErr, OnOk};
+ghost use Rattle.std.specs.Str.{bytes_eq};
+ghost use Rattle.std.specs.Prelude.{◌≡◌, ℕ, ◌-◌, ◌<◌, ◌^◌, ◌↔◌, List, [], map, length, position, slice_get, slice_index, All, Contains, EachIndex, IfOk, IsPermutation, IsSorted, IsTrue, OnErr, OnOk};
 ghost use Rattle.name_table.specs.ByteOrder.{IsInByteOrder};
 ghost use Rattle.name_table.specs.Numbering.{TakesName, AreDistinct};
 ghost use Rattle.node_names.specs.Folding.{folded};
@@ -80,6 +81,14 @@ impl<'a> NodeNames<'a> {
         ensures { IsTrue result ↔ Contains self.now (folded name.now) }
     {
         self.keys.contains(&Key { name })
+    }
+
+    /// The number of a name that the table holds.
+    pub fn get(&self, name: &'a [u8]) -> Option<u32>
+        ensures { result ≡ position (bytes_eq (folded name.now)) self.now }
+    {
+        let number = self.keys.get_index_of(&Key { name })?;
+        Some(number as u32)
     }
 
     /// The number of a name. A name that is new gets the next number. A name that is there always has its answer.

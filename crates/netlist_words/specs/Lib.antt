@@ -1,0 +1,6 @@
+pub mod Line
+pub mod Letter
+pub mod Title
+pub mod Class
+pub mod Text
+pub mod inside

@@ -11,8 +11,8 @@ use Rattle.netlist_words.specs.declared.class.Before.{Before}
 use Rattle.netlist_words.specs.Line.{Line, words_of, words_on, line_start}
 use Rattle.netlist_words.specs.Class.{class_of, open_after, aside, has_card, may_range, names_range, has_none}
 use Rattle.netlist_words.specs.Title.{begins_with, has_card_form}
-use Rattle.netlist_words.specs.Text.{Classed, card_end, with_form, counted, counted_with, given, end_before, closing, words_from}
-use Rattle.netlist_words.specs.inside.Left.{pending_in, owed_place, after, TakesWord}
+use Rattle.netlist_words.specs.Text.{Classed, card_end, with_form, counted, counted_with, given, end_before, end_of_card, closing, words_from}
+use Rattle.netlist_words.specs.inside.Left.{pending_in, owed_place, after, with_end, TakesWord}
 use Rattle.netlist_words.proofs.Words.{bare_same}
 
 abbrev pub classed : Class → Line → Classed
@@ -26,9 +26,9 @@ regroup : (e g c w : List Token) → e ++ (g ++ c ++ w) ≡ (e ++ g) ++ (c ++ w)
 regroup e g c w = ap (λ z. e ++ z) (append_assoc g c w) ∙ sym (append_assoc e g (c ++ w))
 
 after_line : (owed : Bool) (class : Class) (line : Line) (others : List Classed) (end : Place) →
-    after owed (classed class line ∷ others) end ≡ (owed_before owed (end_before class line) ++ given class line) ++ (closing others end ++ words_from others end)
-after_line false class line others end = regroup [] (given class line) (closing others end) (words_from others end)
-after_line true class line others end = regroup (end_before class line) (given class line) (closing others end) (words_from others end)
+    after owed (classed class line ∷ others) end ≡ (owed_before owed (end_before class line) ++ given class line) ++ (closing class others end ++ words_from others end)
+after_line false class line others end = regroup [] (given class line) (closing class others end) (words_from others end)
+after_line true class line others end = regroup (end_before class line) (given class line) (closing class others end) (words_from others end)
 
 pub owed_none : (owed : Bool) → pending_in None ≡ owed_before owed []
 owed_none false = refl
@@ -39,18 +39,19 @@ owed_some false place = refl
 owed_some true place = refl
 
 -- One more line that counts.
-pub entered : (owed : Bool) (before : Before) (line : Line) (class : Class) (next : Before) (pending : Option Place) (ws : List Token) →
+pub entered : (owed owes : Bool) (before : Before) (line : Line) (class : Class) (next : Before) (pending : Option Place) (ws : List Token) →
     class_of before line ≡ class → ((others : List Classed) → counted_with class line others ≡ classed class line ∷ others) →
-    next ≡ open_after before class (words_on line) → pending_in pending ≡ owed_before owed (end_before class line) → ws ≡ given class line →
-    (lines : List Line) (end : Place) → after owed (counted before (line ∷ lines)) end ≡ (pending_in pending ++ ws) ++ after true (counted next lines) end
-entered owed before line class next pending ws is counts same ends gives lines end =
+    ((others : List Classed) (end : Place) → closing class others end ++ words_from others end ≡ after owes others end) → next ≡ open_after before class (words_on line) → pending_in pending ≡ owed_before owed (end_before class line) → ws ≡ given class line →
+    (lines : List Line) (end : Place) → after owed (counted before (line ∷ lines)) end ≡ (pending_in pending ++ ws) ++ after owes (counted next lines) end
+entered owed owes before line class next pending ws is counts closes same ends gives lines end =
     let others = counted (open_after before class (words_on line)) lines in
     ap (λ z. after owed (counted_with z line (counted (open_after before z (words_on line)) lines)) end) is
     ∙ ap (λ z. after owed z end) (counts others)
     ∙ after_line owed class line others end
-    ∙ ap (λ z. (z ++ given class line) ++ after true others end) (sym ends)
-    ∙ ap (λ z. (pending_in pending ++ z) ++ after true others end) (sym gives)
-    ∙ ap (λ z. (pending_in pending ++ ws) ++ after true (counted z lines) end) (sym same)
+    ∙ ap (λ z. (owed_before owed (end_before class line) ++ given class line) ++ z) (closes others end)
+    ∙ ap (λ z. (z ++ given class line) ++ after owes others end) (sym ends)
+    ∙ ap (λ z. (pending_in pending ++ z) ++ after owes others end) (sym gives)
+    ∙ ap (λ z. (pending_in pending ++ ws) ++ after owes (counted z lines) end) (sym same)
 
 -- ## classes
 
@@ -97,7 +98,7 @@ pub words_ended : (others : List Classed) (end : Place) → Ended (words_from ot
 words_ended [] end = ([], end_at end, refl, refl)
 words_ended (one ∷ others) end =
     let more = words_ended others end in
-    let front = given one.class one.line ++ closing others end in
+    let front = given one.class one.line ++ closing one.class others end in
     (front ++ more.0, more.1, ap (λ z. front ++ z) more.2 ∙ sym (append_assoc front more.0 (more.1 ∷ [])), more.3)
 
 -- Six words are no card.
@@ -106,3 +107,15 @@ pub no_form : (line : Line) (old one two three four five six : List Token) (a b 
 no_form line old one two three four five six a b c d e f same h i j k l m =
     let words : old ≡ a ∷ b ∷ c ∷ d ∷ e ∷ f ∷ six = cc in
     ap has_card_form (sym words ∙ same ∙ bare_same (line_start line) (words_of line.bytes))
+
+-- The end of a line that ends with itself.
+pub own_end : (pending : Option Place) (ends : Bool) (old new : List Token) (place p q : Place) (end : Token) →
+    pending ≡ None → ends ≡ true → old ≡ [] → new ≡ [] → place ≡ p → end ≡ card_end p →
+    pending_in pending ++ with_end ends old place ≡ end ∷ (pending_in pending ++ with_end false new q)
+own_end pending ends old new place p q end none is spent left same e =
+    ap (λ z. pending_in z ++ with_end ends old place) none
+    ∙ ap (λ z. with_end z old place) is
+    ∙ ap (λ z. z ++ card_end place ∷ []) spent
+    ∙ ap (λ z. card_end z ∷ []) same
+    ∙ ap (λ z. z ∷ []) (sym e)
+    ∙ ap (λ z. end ∷ z) (sym (ap (λ z. pending_in z ++ new) none ∙ left))

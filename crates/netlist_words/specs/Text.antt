@@ -10,7 +10,7 @@ use Rattle.netlist_words.specs.declared.class.Class.{Class}
 use Rattle.netlist_words.specs.declared.class.Class.TheVariants.{Passed, Begins, GoesOn, Strays, Ranges}
 use Rattle.netlist_words.specs.declared.class.Before.{Before}
 use Rattle.netlist_words.specs.declared.class.Before.TheVariants.{Nothing}
-use Rattle.netlist_words.specs.Line.{Line, lines_of, words_on, line_start, end_of}
+use Rattle.netlist_words.specs.Line.{Line, lines_of, words_on, line_start, line_end, end_of}
 use Rattle.netlist_words.specs.Title.{without_title}
 use Rattle.netlist_words.specs.Class.{class_of, open_after}
 
@@ -50,13 +50,13 @@ with_form form [] = []
 with_form form (first ∷ words) = record { text = first.text; place = first.place; form = form } ∷ words
 
 -- What a line gives. The first word of a range line ends what stands before it on the card, and so does that of a `+` line that
--- goes on with no card.
+-- goes on with no card. A range line ends with itself, since no line goes on with it.
 abbrev pub given : Class → Line → List Token
 given Passed line = []
 given Begins line = words_on line
 given GoesOn line = without_plus (words_on line)
 given Strays line = with_form Break (words_on line)
-given Ranges line = with_form Break (words_on line)
+given Ranges line = with_form Break (words_on line) ++ card_end (line_end line) ∷ []
 
 -- The end of the card before a line, unless the line goes on with it.
 abbrev pub end_before : Class → Line → List Token
@@ -67,14 +67,22 @@ end_before Strays line = card_end (line_start line) ∷ []
 end_before Ranges line = []
 
 -- The end of the card before these lines.
-abbrev pub closing : List Classed → Place → List Token
-closing [] end = card_end end ∷ []
-closing (next ∷ others) end = end_before next.class next.line
+abbrev pub end_of_card : List Classed → Place → List Token
+end_of_card [] end = card_end end ∷ []
+end_of_card (next ∷ others) end = end_before next.class next.line
+
+-- The end of the card after a line of this class, where these lines follow.
+abbrev pub closing : Class → List Classed → Place → List Token
+closing Passed others end = end_of_card others end
+closing Begins others end = end_of_card others end
+closing GoesOn others end = end_of_card others end
+closing Strays others end = end_of_card others end
+closing Ranges others end = []
 
 -- The words that these lines give, with the ends of their cards, and the end of the text.
 abbrev pub words_from : List Classed → Place → List Token
 words_from [] end = end_at end ∷ []
-words_from (one ∷ others) end = given one.class one.line ++ closing others end ++ words_from others end
+words_from (one ∷ others) end = given one.class one.line ++ closing one.class others end ++ words_from others end
 
 -- The words of a netlist. None of them is refused for itself.
 abbrev pub netlist_text : List ℕ → Text Token

@@ -23,6 +23,8 @@ pub(crate) struct Given<'a> {
     /// The place of the end of a card that comes first.
     pending: Option<Place>,
     words: LineWords<'a>,
+    /// Whether the line ends with itself, as a range line.
+    ends: bool,
     before: Before,
     /// Whether the end of a card is owed.
     owed: bool,
@@ -143,32 +145,37 @@ fn enter<'a>(before: Before, owed: bool, line: Line<'a>) -> Given<'a>
                 place: start_place(line),
                 form: Form::Bare,
             },
+            ends: false,
             before: aside(before),
             owed,
         },
         Class::Begins => Given {
             pending: owed_at(owed, line),
             words: LineWords::new(line, Form::Bare),
+            ends: false,
             before: opened(first),
             owed: true,
         },
         Class::GoesOn => Given {
             pending: None,
             words: rest_of_plus(line),
+            ends: false,
             before: again(before),
             owed: true,
         },
         Class::Strays => Given {
             pending: owed_at(owed, line),
             words: LineWords::new(line, Form::Break),
+            ends: false,
             before: Before::Nothing,
             owed: true,
         },
         Class::Ranges => Given {
             pending: None,
             words: LineWords::new(line, Form::Break),
+            ends: true,
             before: Before::Nothing,
-            owed: true,
+            owed: false,
         },
     }
 }
@@ -186,7 +193,14 @@ impl<'a> Given<'a> {
             self.pending = None;
             return Some(end_of_card(place));
         }
-        self.words.next()
+        if let Some(word) = self.words.next() {
+            return Some(word);
+        }
+        if self.ends {
+            self.ends = false;
+            return Some(end_of_card(self.words.place));
+        }
+        None
     }
 }
 
@@ -201,6 +215,7 @@ fn nothing_given() -> Given<'static>
             place: Place { line: 1, word: 1 },
             form: Form::Bare,
         },
+        ends: false,
         before: Before::Nothing,
         owed: false,
     }

@@ -12,7 +12,7 @@ use Rattle.netlist_words.specs.declared.class.Before.TheVariants.{Nothing}
 use Rattle.netlist_words.specs.declared.netlist.Given.{Given}
 use Rattle.netlist_words.specs.declared.netlist.Cards.{Cards}
 use Rattle.netlist_words.specs.Line.{Line, line_of, parts, numbered, words_of, placed, line_end, end_from}
-use Rattle.netlist_words.specs.Text.{Classed, card_end, with_form, counted, closing, words_from}
+use Rattle.netlist_words.specs.Text.{Classed, card_end, with_form, counted, end_of_card, words_from}
 
 -- The lines of these bytes, numbered from here on, where there are more lines.
 abbrev pub lines_left : Bool → ℕ → List ℕ → List Line
@@ -64,11 +64,16 @@ pending_in (Some place) = card_end place ∷ []
 -- What the lines that are left give, where the end of a card is owed or not.
 abbrev pub after : Bool → List Classed → Place → List Token
 after false others end = words_from others end
-after true others end = closing others end ++ words_from others end
+after true others end = end_of_card others end ++ words_from others end
+
+-- Words, and the end of a card after them, where the line ends with itself.
+abbrev pub with_end : Bool → List Token → Place → List Token
+with_end false words place = words
+with_end true words place = words ++ card_end place ∷ []
 
 -- What is left of a line.
 abbrev pub left_of_line : Given → List Token
-left_of_line given = pending_in given.pending ++ words_in given.words
+left_of_line given = pending_in given.pending ++ with_end given.ends (words_in given.words) (words_end given.words)
 
 -- What is left of a line, and then of these lines.
 abbrev pub left_with : Given → List Line → Place → List Token
@@ -94,6 +99,7 @@ pub record IsBlank (given : Given) : Type 0 where
   pub pending : given.pending ≡ None
   pub words : words_in given.words ≡ []
   pub before : given.before ≡ Nothing
+  pub ends : given.ends ≡ false
   pub owed : given.owed ≡ false
   pub counts : CanCountWords given.words
 

@@ -1,5 +1,5 @@
 -- The laws that the format owes.
-use Rattle.std.proofs.Common.{◌≡◌, ℕ, ◌+◌, Bool, true, List, [], ◌∷◌, length, codes, refl, sym, ◌∙◌, ap, inl, inr}
+use Rattle.std.proofs.Common.{◌≡◌, ℕ, ◌+◌, Bool, true, List, [], ◌∷◌, length, codes, refl, sym, ◌∙◌, ap, inr}
 use Rattle.lef_cells.specs.declared.error.CellsKind.{CellsKind}
 use Rattle.lef_cells.specs.declared.section.Section.{Section}
 use Rattle.lef_cells.specs.declared.section.Section.TheVariants as places

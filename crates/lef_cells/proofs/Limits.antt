@@ -1,6 +1,5 @@
 -- What a record keeps, by what its sections say.
-use Rattle.std.proofs.Common.{◌≡◌, ℕ, ◌^◌, ◌≤◌, pos, Bool, true, false, List, [], ◌∷◌, map, All, Option, Some, None, Ok, sym, subst}
-use Rattle.std.specs.Prelude.{unsigned_abs}
+use Rattle.std.proofs.Common.{◌≡◌, ℕ, ◌^◌, ◌≤◌, pos, true, false, List, [], ◌∷◌, map, All, Option, Some, sym, subst}
 use Rattle.entry_list.specs.InTurn.{InTurn}
 use Rattle.entry_list.specs.Laws.{in-turn-all}
 use Rattle.named_entries.specs.Laws.{names-differ}

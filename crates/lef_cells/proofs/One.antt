@@ -1,5 +1,5 @@
 -- The units of a text say one record.
-use Rattle.std.proofs.Common.{◌≡◌, ℕ, Bool, List, [], ◌∷◌, Option, Some, None, Result, Ok, Err, IfOk, IfErr, inl, sym, ◌∙◌, ap}
+use Rattle.std.proofs.Common.{◌≡◌, ℕ, List, [], ◌∷◌, Option, Some, Result, Ok, Err, IfOk, IfErr, inl, sym, ◌∙◌, ap}
 use Rattle.entry_list.specs.Laws.{in-turn-one}
 use Rattle.lef_cells.specs.declared.error.CellsKind.{CellsKind}
 use Rattle.lef_cells.specs.declared.error.CellsKind.TheVariants.{Want}

@@ -1,5 +1,5 @@
 -- The faults of the text of cells: a length that is refused, a name that stands again, an end of another section.
-use Rattle.std.specs.Prelude.{◌≡◌, ◌≢◌, ℕ, Bool, false, List, [], ◌∷◌, map, Contains, Option, Some, None, Err}
+use Rattle.std.specs.Prelude.{◌≡◌, ◌≢◌, ℕ, List, [], ◌∷◌, map, Contains, Err}
 use Rattle.lef_cells.specs.declared.error.CellsKind.{CellsKind}
 use Rattle.lef_cells.specs.declared.error.CellsKind.TheVariants as kinds
 use Rattle.lef_cells.specs.declared.section.Section.{Section}

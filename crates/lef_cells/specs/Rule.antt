@@ -1,5 +1,5 @@
 -- The units of a LEF library, as the reader of its cells takes it apart (LEF/DEF 5.8 Language Reference, "LEF Syntax").
-use Rattle.std.specs.Prelude.{ℕ, Bool, true, false, List, [], ◌∷◌, filter, map}
+use Rattle.std.specs.Prelude.{ℕ, Bool, true, false, List, [], ◌∷◌, filter}
 use Rattle.lef_cells.specs.declared.section.Section.{Section}
 use Rattle.lef_cells.specs.declared.section.Section.TheVariants as places
 use Rattle.lef_cells.specs.declared.sort.Sort.{Sort}

@@ -1,5 +1,5 @@
 -- What the reader holds after whole units.
-use Rattle.std.specs.Prelude.{◌≡◌, ℕ, Bool, true, List, [], ◌∷◌, ◌++◌, Option, Some, None, filter, map, Contains}
+use Rattle.std.specs.Prelude.{◌≡◌, Bool, true, List, [], ◌∷◌, ◌++◌, Option, Some, None, filter, map, Contains}
 use Rattle.named_entries.specs.Named.{HoldsNamed}
 use Rattle.lef_cells.specs.declared.held.Held.{Held}
 use Rattle.lef_cells.specs.declared.held.Sections.{Sections}

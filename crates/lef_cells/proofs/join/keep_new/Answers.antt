@@ -1,4 +1,4 @@
-use Rattle.std.proofs.Common.{◌≡◌, not, filter, rules, ◌∙◌}
+use Rattle.std.proofs.Common.{not, rules, ◌∙◌}
 use Rattle.std.proofs.lemmas.Fn.{filter_same}
 use Rattle.lef_cells.specs.Join.{is_among}
 use Rattle.lef_cells.proofs.Joining.{same_without}

@@ -17,7 +17,7 @@ pub enum CellsKind {
     BadString,
     /// The word is no number, a number other than 0 that rounds to 0, or one beyond the limit.
     Number(DecimalError),
-    /// A site or a macro before has this name.
+    /// A site before has this site's name, or a macro before this macro's.
     Twice,
     /// There was not enough memory.
     Want,

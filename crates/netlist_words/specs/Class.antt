@@ -37,9 +37,9 @@ abbrev pub has_none : List Token → Bool
 has_none [] = true
 has_none (first ∷ words) = false
 
--- What a line is after what stands before it. A line that begins with `+` (43) goes on with the card before it, comments and empty
--- lines aside. `*range` is a range line right after a line of a load's card. A line that begins with `*` (42) is a comment. A line
--- without words is passed over. Every other line begins a card; dot lines count as cards.
+-- What a line is after what stands before it. A line that begins with `+` (43) goes on with the card before it,
+-- comments and empty lines aside. `*range` is a range line right after a line of a load's card. A line that begins with
+-- `*` (42) is a comment. A line without words is passed over. Every other line begins a card; dot lines count as cards.
 abbrev pub class_of : Before → Line → Class
 class_of before line =
     if begins_with 43 line.bytes then (if has_card before then GoesOn else Strays)

@@ -1,4 +1,4 @@
--- The letters of cards, and the words that never stand for a value, as SPICE has them.
+-- The letters of cards, as SPICE has them, and the words that never stand for a value, as this project has them.
 use Rattle.std.specs.Prelude.{ℕ, Bool, true, false, ◌==◌, ◌||◌, ◌&&◌, not, List, [], ◌∷◌, codes, if◌then◌else◌}
 use Rattle.std.specs.Str.{bytes_eq}
 use Rattle.netlist_words.specs.declared.letter.Letter.{Letter}

@@ -1,4 +1,4 @@
--- The lines of a text and their words, as SPICE has them.
+-- The lines of a text and their words. Of what separates words in SPICE programs blanks, tabs and carriage returns do.
 use Rattle.std.specs.Prelude.{ℕ, ◌+◌, Bool, true, false, ◌==◌, List, [], ◌∷◌, length, filter, if◌then◌else◌}
 use Rattle.outside.specs.declared.place.Place.{Place}
 use Rattle.reading.specs.declared.word.Form.TheVariants.{Bare}

@@ -1,4 +1,5 @@
--- The words of a netlist: those of its cards, of the lines that go on with them and of the ranges of loads, with the end of each card.
+-- The words of a netlist: those of its cards, of the lines that go on with them and of the ranges of loads, with the
+-- end of each card.
 use Rattle.std.specs.Prelude.{ℕ, List, [], ◌∷◌, ◌++◌, None, codes, drop, if◌then◌else◌}
 use Rattle.std.specs.Str.{bytes_eq}
 use Rattle.outside.specs.declared.place.Place.{Place}
@@ -49,8 +50,8 @@ abbrev pub with_form : Form → List Token → List Token
 with_form form [] = []
 with_form form (first ∷ words) = record { text = first.text; place = first.place; form = form } ∷ words
 
--- What a line gives. The first word of a range line ends what stands before it on the card, and so does that of a `+` line that
--- goes on with no card. A range line ends with itself, since no line goes on with it.
+-- What a line gives. The first word of a range line ends what stands before it on the card, and so does that of a `+`
+-- line that goes on with no card. A range line ends with itself, since no line goes on with it.
 abbrev pub given : Class → Line → List Token
 given Passed line = []
 given Begins line = words_on line

@@ -28,7 +28,7 @@ pub(crate) enum Class {
 /// What stands before a line.
 #[derive(Clone, Copy, Debug, PartialEq, Eq)]
 pub(crate) enum Before {
-    /// No card, or a load with its range.
+    /// No card, a load with its range, or a `+` line that goes on with no card.
     Nothing,
     /// A card of another kind than a load, or a dot line.
     Card,

@@ -1,7 +1,7 @@
 //! The words of a netlist, as a source of the engine that reads texts.
 //!
-//! A netlist goes by lines: `line` cuts a text into them, `word` a line into words, `title` tells whether the first one is the title,
-//! `class` what each other line is, and `netlist` gives the words of the cards, each card with its end.
+//! A netlist goes by lines: `line` cuts a text into them, `word` a line into words, `title` tells whether the first one
+//! is the title, `class` what each other line is, and `netlist` gives the words of the cards, each card with its end.
 #![tactic(auto)]
 
 mod class;

@@ -41,10 +41,11 @@ pub(crate) struct Cards<'a> {
     ended: bool,
 }
 
-/// The words of a netlist that are still to come: those of its cards without comments, without the title, and without the `+` of lines
-/// that go on with a card. After the words of each card stands its end, a word of the form `Break` and without text, whose place is that
-/// of the first word of the next line that counts, or of the end of the text. A range line after a load's card goes on with it; there
-/// its first word `*range` is such an end. A `+` line with no card before it begins with an end too, whose text begins with the `+`.
+/// The words of a netlist that are still to come: those of its cards without comments, without the title, and without
+/// the `+` of lines that go on with a card. After the words of each card stands its end, a word of the form `Break` and
+/// without text, whose place is that of the first word of the next line that counts, or of the end of the text. A range
+/// line after a load's card is part of it; there its first word `*range` is such an end. A `+` line with no card before
+/// it begins with an end too, whose text begins with the `+`.
 #[derive(Drop)]
 pub struct NetlistWords<'a> {
     cards: Cards<'a>,

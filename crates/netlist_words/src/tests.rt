@@ -1,4 +1,5 @@
-//! Texts with their words, as `LINE:WORD TEXT`, the end of a card as `|`, one with a text as `|TEXT`, and the end of the text as `.`.
+//! Texts with their words, as `LINE:WORD TEXT`, the end of a card as `|`, one with a text as `|TEXT`, and the end of
+//! the text as `.`.
 use super::*;
 use reading::{Form, Source};
 use std::alloc::Global;

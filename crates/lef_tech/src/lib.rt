@@ -7,7 +7,10 @@
 
 mod layer;
 mod limits;
+mod pattern;
 mod rule;
+mod section;
+mod sort;
 mod tech;
 
 pub use layer::{CutLayer, Density, LayerRef, RoutingLayer};

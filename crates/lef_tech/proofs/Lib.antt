@@ -1,0 +1,13 @@
+pub mod Shapes
+pub mod Steps
+pub mod Numbers
+pub mod Late
+pub mod Law
+pub mod Taking
+pub mod One
+pub mod Layers
+pub mod Learnt
+pub mod Taken
+pub mod Says
+pub mod HasRead
+pub mod Gather

@@ -58,8 +58,20 @@ const TOP: Rule<'static, Sort> = Or(
     &Or(&RULE_HEAD, &Or(&PASSED_HEAD, &Or(&LIBRARY_END, &TOP_WORD))),
 );
 
-/// `TYPE name ;`.
-const LAYER_START: Rule<'static, Sort> = Then(&One(&[Sort::LayerType]), &Then(&NAME, &STOP));
+/// `TYPE ROUTING ;`, `TYPE CUT ;`, or `TYPE` and the name of another type.
+const LAYER_START: Rule<'static, Sort> = Then(
+    &One(&[Sort::LayerType]),
+    &Or(
+        &Then(&One(&[Sort::Routing, Sort::Cut]), &STOP),
+        &Other(&[
+            Sort::Routing,
+            Sort::Cut,
+            Sort::Semicolon,
+            Sort::Quoted,
+            Sort::TextEnd,
+        ]),
+    ),
+);
 
 /// `DIRECTION HORIZONTAL ;` or `DIRECTION VERTICAL ;`.
 const DIRECTION: Rule<'static, Sort> = Then(
@@ -110,12 +122,7 @@ const CUT_CURRENT: Rule<'static, Sort> = Then(
             &Or(
                 &Then(&One(&[Sort::CutArea]), &NUMBER),
                 &Then(
-                    &Other(&[
-                        Sort::CutArea,
-                        Sort::Semicolon,
-                        Sort::Bracket,
-                        Sort::TextEnd,
-                    ]),
+                    &Other(&[Sort::CutArea, Sort::Semicolon, Sort::Bracket, Sort::TextEnd]),
                     &STOP,
                 ),
             ),
@@ -207,10 +214,7 @@ const ENCLOSURE: Rule<'static, Sort> = Then(
 /// `WIDTH a TO b ;`.
 const WIDTH: Rule<'static, Sort> = Then(
     &One(&[Sort::Width]),
-    &Then(
-        &NUMBER,
-        &Then(&One(&[Sort::To]), &Then(&NUMBER, &STOP)),
-    ),
+    &Then(&NUMBER, &Then(&One(&[Sort::To]), &Then(&NUMBER, &STOP))),
 );
 
 /// The first word of another statement after a routing layer of a rule.
@@ -226,10 +230,7 @@ const WIRE_PART_WORD: Rule<'static, Sort> = Other(&[
 /// A statement after a routing layer of a rule, or the rule's end.
 const WIRE_PART: Rule<'static, Sort> = Or(
     &PART,
-    &Or(
-        &SECTION_END,
-        &Or(&ENCLOSURE, &Or(&WIDTH, &WIRE_PART_WORD)),
-    ),
+    &Or(&SECTION_END, &Or(&ENCLOSURE, &Or(&WIDTH, &WIRE_PART_WORD))),
 );
 
 /// `RECT x y x y ;`.
@@ -244,17 +245,11 @@ const RECT: Rule<'static, Sort> = Then(
 /// `SPACING x BY y ;`.
 const PITCH: Rule<'static, Sort> = Then(
     &One(&[Sort::Spacing]),
-    &Then(
-        &NUMBER,
-        &Then(&One(&[Sort::By]), &Then(&NUMBER, &STOP)),
-    ),
+    &Then(&NUMBER, &Then(&One(&[Sort::By]), &Then(&NUMBER, &STOP))),
 );
 
 /// `RESISTANCE v ;`.
-const PART_RESISTANCE: Rule<'static, Sort> = Then(
-    &One(&[Sort::Resistance]),
-    &Then(&NUMBER, &STOP),
-);
+const PART_RESISTANCE: Rule<'static, Sort> = Then(&One(&[Sort::Resistance]), &Then(&NUMBER, &STOP));
 
 /// The first word of another statement after the cut layer of a rule.
 const CUT_PART_WORD: Rule<'static, Sort> = Other(&[
@@ -272,10 +267,7 @@ const CUT_PART: Rule<'static, Sort> = Or(
     &PART,
     &Or(
         &SECTION_END,
-        &Or(
-            &RECT,
-            &Or(&PITCH, &Or(&PART_RESISTANCE, &CUT_PART_WORD)),
-        ),
+        &Or(&RECT, &Or(&PITCH, &Or(&PART_RESISTANCE, &CUT_PART_WORD))),
     ),
 );
 

@@ -11,3 +11,4 @@ pub mod Taken
 pub mod Says
 pub mod HasRead
 pub mod Gather
+pub mod Kept

@@ -11,6 +11,7 @@ mod facts;
 mod fault;
 mod format;
 mod held;
+mod keeping;
 mod known;
 mod laws;
 mod layer;

@@ -1,5 +1,6 @@
 ghost use Rattle.std.specs.Prelude.{◌≡◌, List, IfOk};
 ghost use Rattle.lef_tech.specs.Format.{ReadsTech};
+ghost use Rattle.lef_tech.specs.Limits.{TechKeeps};
 ghost use Rattle.lef_tech.specs.Record.{tech_of, IsTech};
 ghost use Rattle.lef_tech.specs.inside.Held.{Holds};
 ghost use Rattle.reading.specs.Word.{Token};
@@ -7,6 +8,7 @@ ghost use Rattle.reading.specs.Word.{Token};
 use crate::error::TechError;
 use crate::format::TechFormat;
 use crate::held::Held;
+use crate::keeping::keeps_limits;
 use crate::rules::rules_in;
 use crate::stack::stack_of;
 use crate::statement::Statement;
@@ -24,7 +26,8 @@ use text_lex::Mode;
 /// Errors: the refusal at the earliest word, and there of the first kind, as `TechKind` lists them; `Want` for want of
 /// memory.
 pub fn read_tech(alloc: Global, text: &[u8]) -> Result<Tech, TechError>
-    ensures { ReadsTech text.now result }
+    ensures reads { ReadsTech text.now result }
+    ensures keeps { IfOk result TechKeeps }
 {
     let Ok(mut held) = Held::new(alloc) else {
         return Err(ReadError::want());
@@ -40,13 +43,28 @@ pub fn read_tech(alloc: Global, text: &[u8]) -> Result<Tech, TechError>
 
 /// The technology that has been read.
 fn tech_in(held: Held<'_>) -> Result<Tech, AllocError>
-    ensures { (units : List (List Token)) → Holds units held.entry → IfOk result (IsTech units) }
+    ensures is { (units : List (List Token)) → Holds units held.entry → IfOk result (IsTech units) }
+    ensures keeps { IfOk result TechKeeps }
 {
     tech_of(held.alloc, &held.statements)
 }
 
-/// The technology of the statements.
+/// The technology of the statements. Where it does not keep its limits the answer is want of memory, which no clause ties
+/// to anything; it never comes, since what a text says keeps them.
 fn tech_of(alloc: Global, statements: &[Statement]) -> Result<Tech, AllocError>
+    ensures is { IfOk result (λ tech. tech ≡ tech_of statements.now) }
+    ensures keeps { IfOk result TechKeeps }
+{
+    let tech = gathered(alloc, statements)?;
+    if keeps_limits(&tech) {
+        Ok(tech)
+    } else {
+        Err(AllocError)
+    }
+}
+
+/// The layers and rules of the statements.
+fn gathered(alloc: Global, statements: &[Statement]) -> Result<Tech, AllocError>
     ensures { IfOk result (λ tech. tech ≡ tech_of statements.now) }
 {
     let stack = stack_of(alloc, statements)?;

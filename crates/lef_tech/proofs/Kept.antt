@@ -21,14 +21,14 @@ rise_more points n some within rise last =
     let R : ℕ × ℕ → ℕ × ℕ → Type 0 = λ p q. p.0 < q.0 in
     let count : length (take n points) ≡ n = length-take-le n points (omega arith) in
     let each : (k : ℕ) (d : ℕ × ℕ) → k < length (take n points) → (get_or (take n points) k d).0 < (get_or points n (0, 0)).0 = λ k d lt.
-        let at_last : get_or (take n points) (n - 1) d ≡ get_or points (n - 1) (0, 0) =
-            get_or-take n points (n - 1) d (omega arith) ∙ get_or_default points (n - 1) d (0, 0) (omega arith) in
-        let below_last : (get_or (take n points) (n - 1) d).0 < (get_or points n (0, 0)).0 =
-            subst (λ (z : ℕ × ℕ). z.0 < (get_or points n (0, 0)).0) (sym at_last) last in
-        elim (last_or_before k n some (omega arith)) [
-          | inl e ↦ subst (λ z. (get_or (take n points) z d).0 < (get_or points n (0, 0)).0) (sym e) below_last
-          | inr less ↦ let first : (get_or (take n points) k d).0 < (get_or (take n points) (n - 1) d).0 = rise k (n - 1) d less (omega arith) in omega arith
-        ] in
+    let at_last : get_or (take n points) (n - 1) d ≡ get_or points (n - 1) (0, 0) =
+    get_or-take n points (n - 1) d (omega arith) ∙ get_or_default points (n - 1) d (0, 0) (omega arith) in
+    let below_last : (get_or (take n points) (n - 1) d).0 < (get_or points n (0, 0)).0 =
+    subst (λ (z : ℕ × ℕ). z.0 < (get_or points n (0, 0)).0) (sym at_last) last in
+    elim (last_or_before k n some (omega arith)) [
+      | inl e ↦ subst (λ z. (get_or (take n points) z d).0 < (get_or points n (0, 0)).0) (sym e) below_last
+      | inr less ↦ let first : (get_or (take n points) k d).0 < (get_or (take n points) (n - 1) d).0 = rise k (n - 1) d less (omega arith) in omega arith
+    ] in
     subst Rise (sym (take_more points n (0, 0) within)) (all_pairs_push R (take n points) (get_or points n (0, 0)) rise each)
 
 -- ## the order of all layers

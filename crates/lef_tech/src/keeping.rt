@@ -84,7 +84,11 @@ fn routing_keeps(layer: &RoutingLayer) -> bool
 {
     is_length(layer.spacing)
         && ohms_keep(layer.sheet)
-        && density_keeps(LENGTH_LIMIT as u64, WIRE_DENSITY_LIMIT as u64, &layer.density)
+        && density_keeps(
+            LENGTH_LIMIT as u64,
+            WIRE_DENSITY_LIMIT as u64,
+            &layer.density,
+        )
 }
 
 fn cut_keeps(layer: &CutLayer) -> bool

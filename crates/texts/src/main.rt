@@ -7,6 +7,7 @@
 mod bias;
 mod cells;
 mod line;
+mod tech;
 
 use outside::{LONGEST_TEXT, StdFiles, StdSink, read_whole, send};
 use std::alloc::{AllocError, Global};
@@ -48,6 +49,9 @@ fn told(alloc: Global, format: &str, text: &[u8]) -> Result<Option<Printed>, All
     }
     if format == "cells" {
         return Ok(Some(cells::told(alloc, text)?));
+    }
+    if format == "lef_tech" {
+        return Ok(Some(tech::told(alloc, text)?));
     }
     Ok(None)
 }

@@ -1,0 +1,4 @@
+pub mod LineLemmas
+pub mod LoadLemmas
+pub mod PlaceLemmas
+pub mod NamedLemmas

@@ -1,0 +1,4 @@
+pub mod Place
+pub mod Named
+pub mod Written
+pub mod inside

@@ -1,0 +1,5 @@
+use Rattle.spice_cards.proofs.Ranges.{loads_rise}
+use Rattle.spice_cards.proofs.held.Held.into_cards.Goals as goal
+
+pub returns-clause-ranges : goal.returns-clause-ranges
+returns-clause-ranges c = λ units h. loads_rise units c.args.self.cards h.cards

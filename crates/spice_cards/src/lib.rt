@@ -1,0 +1,29 @@
+//! Netlists: the cards of a power grid, as SPICE writes them and as Nassif's power grid benchmarks use them.
+//!
+//! A netlist is read by the one engine of `reading` over the words of `netlist_words`, to the letter of the definitions in `specs/`: `sort`
+//! has the sorts of words, `section` and `rule` say which units may follow, `fault` why a word is refused, `number` which
+//! numbers stand in which places, `card` takes a unit apart, `record` has what the cards say, `format` is the whole as the engine takes it, and
+//! `read` is the call.
+#![tactic(auto)]
+
+mod card;
+mod error;
+mod fault;
+mod format;
+mod held;
+mod laws;
+mod number;
+mod read;
+mod record;
+mod rule;
+mod section;
+mod sort;
+
+pub use error::{CardsError, CardsKind};
+pub use laws::netlists_have_one_reading;
+pub use number::{AMPERES_LIMIT, OHMS_LIMIT, VOLTS_LIMIT};
+pub use read::read_cards;
+pub use record::{Cards, Short};
+
+#[cfg(test)]
+mod tests;

@@ -1,5 +1,5 @@
 -- Faults of the words of a card.
-use Rattle.std.proofs.Common.{◌≡◌, ℕ, ◌+◌, ◌<◌, ◌≤◌, ℤ, Bool, true, false, if◌then◌else◌, List, [], ◌∷◌, length, get_or, Option, None, Some, Result, Ok, Err, refl, sym, ◌∙◌, ap, arith}
+use Rattle.std.proofs.Common.{◌≡◌, ℕ, ◌+◌, ◌<◌, ◌≤◌, ℤ, Bool, true, false, if◌then◌else◌, List, [], ◌∷◌, length, get_or, Option, None, Some, Result, refl, sym, ◌∙◌, ap, arith}
 use Rattle.number_place.specs.declared.place.NumberPlace.{NumberPlace}
 use Rattle.number_place.specs.declared.place.Refused.{Refused}
 use Rattle.number_place.specs.Place.{IsNumberAt}
@@ -7,12 +7,11 @@ use Rattle.reading.specs.declared.refusal.Found.{Found}
 use Rattle.reading.specs.declared.word.Word.{Word}
 use Rattle.reading.specs.declared.word.Form.TheVariants.{Bare}
 use Rattle.reading.specs.Fault.{Finds, found_at}
-use Rattle.reading.specs.Word.{Token, token}
+use Rattle.reading.specs.Word.{Token}
 use Rattle.spice_cards.specs.declared.error.CardsKind.{CardsKind}
 use Rattle.spice_cards.specs.declared.sort.Sort.{Sort}
 use Rattle.spice_cards.specs.declared.sort.Sort.TheVariants as sorts
 use Rattle.spice_cards.specs.Sort.{sort_of}
-use Rattle.spice_cards.specs.Section.{section_of}
 use Rattle.spice_cards.specs.Card.{is_dc_first, without_dc, value_at}
 use Rattle.spice_cards.specs.Number.{ohms, volts, amperes}
 use Rattle.spice_cards.specs.Fault.{refused_by, source_by, low_by, high_by, AnswerFault, EndFault, ResistorFault, SourceFault, LoadFault, CardFault, fault}

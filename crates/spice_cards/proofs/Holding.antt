@@ -1,5 +1,5 @@
 -- One more unit.
-use Rattle.std.proofs.Common.{◌≡◌, ◌↔◌, ◌⊎◌, ℕ, ℤ, ◌≤ℤ◌, List, [], ◌∷◌, ◌++◌, All, Contains, Option, None, Some, inl, inr, refl, sym, ◌∙◌, ap, subst, arith}
+use Rattle.std.proofs.Common.{◌≡◌, ◌↔◌, ℕ, List, [], ◌∷◌, ◌++◌, Contains, Option, None, Some, inl, inr, refl, sym, ◌∙◌, ap, subst}
 use Rattle.std.specs.Prelude.{flat_map}
 use Rattle.std.proofs.lemmas.List.Elements.{Contains-append_cases, Contains-append_left, Contains-append_right}
 use Rattle.entry_list.specs.InTurn.{InTurn}
@@ -10,7 +10,7 @@ use Rattle.spice_cards.specs.Card.{Card, card_of, cards_of}
 use Rattle.spice_cards.specs.Section.{section_from, section_after}
 use Rattle.spice_cards.specs.Record.{Part, SaysCard, SaysCards, nodes_of}
 use Rattle.spice_cards.specs.inside.Held.{Adds, AddsUnit, TakesNames}
-use Rattle.spice_cards.proofs.Lists.{Grows, all-grow, all-have, turn-map, turn-one, filtered-some, filtered-none, flat-one}
+use Rattle.spice_cards.proofs.Lists.{all-grow, all-have, turn-map, turn-one, filtered-some, filtered-none, flat-one}
 use Rattle.spice_cards.proofs.Says.{says-more}
 
 pub section-more : (section : Section) (units : List (List Token)) (unit : List Token) →

@@ -1,5 +1,5 @@
 -- The laws that the format owes.
-use Rattle.std.proofs.Common.{◌≡◌, ℕ, Bool, true, List, [], codes, refl, ap, inl, inr}
+use Rattle.std.proofs.Common.{◌≡◌, ℕ, Bool, true, List, [], codes, refl, ap, inr}
 use Rattle.spice_cards.specs.declared.section.Section.{Section}
 use Rattle.spice_cards.specs.declared.section.Section.TheVariants.{Cards, Passing, Ended}
 use Rattle.spice_cards.specs.declared.sort.Sort.{Sort}

@@ -1,5 +1,5 @@
 -- The ranges of loads go up, and numbers are kept by the machine.
-use Rattle.std.proofs.Common.{◌≡◌, ℕ, ◌^◌, ◌≤◌, ℤ, pos, negsuc, ◌≤ℤ◌, Bool, true, false, if◌then◌else◌, List, [], ◌∷◌, ◌++◌, All, Option, Some, None, Ok, refl, sym, ◌∙◌, ap, subst, arith, to_z, of_z}
+use Rattle.std.proofs.Common.{◌≡◌, ℕ, ◌^◌, ◌≤◌, ℤ, ◌≤ℤ◌, Bool, true, false, if◌then◌else◌, List, [], ◌∷◌, All, Option, Some, None, sym, ap, subst, arith, to_z, of_z}
 use Rattle.std.specs.Prelude.{unsigned_abs, neg_ℤ, flat_map}
 use Rattle.std.specs.Int.{w64, w128}
 use Rattle.std.specs.Int.Signed.{lt_z, lt_z_no}
@@ -12,7 +12,7 @@ use Rattle.reading.specs.Word.{Token}
 use Rattle.spice_cards.specs.declared.record.Cards.{Cards}
 use Rattle.spice_cards.specs.Card.{Card, Resistor, Source, Load, Ends, is_ground, cards_of}
 use Rattle.spice_cards.specs.Fault.{is_zero}
-use Rattle.spice_cards.specs.Record.{Part, resistor_part, short_part, pad_part, SaysCard, SaysSource, SaysCards, IsRange, LoadsNode}
+use Rattle.spice_cards.specs.Record.{Part, resistor_part, short_part, SaysCard, SaysSource, SaysCards, IsRange, LoadsNode}
 
 -- ## kept numbers
 

@@ -6,7 +6,7 @@ use Rattle.reading.specs.declared.error.ReadError.{ReadError}
 use Rattle.reading.specs.declared.refusal.Refusal.{Refusal}
 use Rattle.reading.specs.declared.refusal.Refusal.TheVariants.{Want, At}
 use Rattle.reading.specs.Error.{error_of}
-use Rattle.reading.specs.Outcome.{Refuses, IsRefusedAt}
+use Rattle.reading.specs.Outcome.{Refuses}
 use Rattle.reading.specs.Reading.{Text}
 use Rattle.reading.specs.Word.{Token}
 use Rattle.spice_cards.specs.declared.error.CardsKind.{CardsKind}

@@ -1,5 +1,5 @@
 -- What a card says stays true while names are added.
-use Rattle.std.proofs.Common.{◌≡◌, ℕ, ℤ, Bool, true, false, List, [], ◌∷◌, Option, None, Some, ap, sym}
+use Rattle.std.proofs.Common.{ℕ, ℤ, Bool, true, false, List}
 use Rattle.spice_cards.specs.Card.{Card, Resistor, Source, Load, is_ground}
 use Rattle.spice_cards.specs.Record.{Part, SaysCard, SaysSource, LoadsNode}
 use Rattle.spice_cards.proofs.Lists.{Grows}

@@ -1,5 +1,5 @@
 -- One more card.
-use Rattle.std.proofs.Common.{◌≡◌, ◌↔◌, ℕ, ◌<◌, ◌≤◌, ℤ, ◌≤ℤ◌, pos, Bool, true, false, if◌then◌else◌, List, [], ◌∷◌, ◌++◌, map, length, Contains, Option, None, Some, Result, Ok, Err, OnOk, refl, sym, ◌∙◌, ap, subst, append_assoc, arith}
+use Rattle.std.proofs.Common.{◌≡◌, ◌↔◌, ℕ, ◌<◌, ◌≤◌, ℤ, ◌≤ℤ◌, Bool, true, false, if◌then◌else◌, List, [], ◌∷◌, ◌++◌, map, length, Contains, Option, None, Some, Result, Ok, Err, OnOk, refl, sym, ◌∙◌, ap, subst, append_assoc, arith}
 use Rattle.std.specs.Prelude.{neg_ℤ, option_map}
 use Rattle.std.specs.declared.alloc.AllocError.{AllocError}
 use Rattle.std.proofs.lemmas.List.{append-nil}
@@ -11,10 +11,10 @@ use Rattle.reading.specs.Word.{Token, token}
 use Rattle.spice_cards.specs.declared.card.Ends.{Ends as SourceEnds}
 use Rattle.spice_cards.specs.declared.error.CardsKind.{CardsKind}
 use Rattle.spice_cards.specs.declared.record.Cards.{Cards}
-use Rattle.spice_cards.specs.Card.{Card, Resistor, Source, Load, Ends, ends_in, is_ground, card_of}
+use Rattle.spice_cards.specs.Card.{Card, Source, Load, Ends, ends_in, is_ground, card_of}
 use Rattle.spice_cards.specs.Fault.{is_zero, fault}
-use Rattle.spice_cards.specs.Number.{ohms, volts, amperes}
-use Rattle.spice_cards.specs.Record.{Part, pad_part, SaysSource, source_nodes, short_part, resistor_part, load_part, HasNumber, SaysCard, SaysCards, IsRange, but_ground, LoadsNode}
+use Rattle.spice_cards.specs.Number.{volts, amperes}
+use Rattle.spice_cards.specs.Record.{pad_part, SaysSource, source_nodes, short_part, resistor_part, load_part, SaysCards, IsRange, but_ground, LoadsNode}
 use Rattle.spice_cards.specs.inside.Held.{Adds, AddsPad, AddsLoad, TakesNames}
 use Rattle.spice_cards.proofs.Lists.{all-grow, all-joined}
 use Rattle.spice_cards.proofs.Says.{loads-more}

@@ -1,5 +1,5 @@
 -- The cards of a netlist, as the SPICE manual has them, cut down to what a power grid needs.
-use Rattle.std.specs.Prelude.{Bool, true, false, ◌&&◌, not}
+use Rattle.std.specs.Prelude.{Bool, true, false}
 use Rattle.spice_cards.specs.declared.section.Section.{Section}
 use Rattle.spice_cards.specs.declared.section.Section.TheVariants.{Cards, Passing, Ended}
 use Rattle.spice_cards.specs.declared.sort.Sort.{Sort}

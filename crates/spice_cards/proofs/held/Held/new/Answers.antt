@@ -1,4 +1,4 @@
-use Rattle.std.proofs.Common.{refl, sym, arith}
+use Rattle.std.proofs.Common.{refl, arith}
 use Rattle.spice_cards.proofs.Taking.{empty_cards}
 use Rattle.spice_cards.proofs.held.Held.new.Goals as goal
 

@@ -41,3 +41,6 @@ pub use limits::{
 pub use read::read_tech;
 pub use rule::ViaRule;
 pub use tech::Tech;
+
+#[cfg(test)]
+mod tests;

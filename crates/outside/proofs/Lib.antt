@@ -3,3 +3,4 @@ mod Listed
 mod Reading
 mod Sending
 mod Tallies
+mod Writing

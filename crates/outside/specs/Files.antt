@@ -1,5 +1,5 @@
 -- What files hold, and what a call does to it. A name and the bytes of a file are lists of bytes.
-use Rattle.std.specs.Prelude.{◌≡◌, ℕ, ◌<◌, List, [], ◌++◌, length, take, drop, Option, Some, unwrap_or}
+use Rattle.std.specs.Prelude.{◌≡◌, ◌⊎◌, ℕ, ◌<◌, List, [], ◌++◌, length, take, drop, Option, Some, unwrap_or}
 use Rattle.outside.specs.Entries.{Assigns}
 
 -- What files hold: for each name the bytes of its file, if there is such a file.
@@ -23,3 +23,11 @@ MakesEmpty name old new = Assigns name (Some []) old new
 -- The first n bytes of a piece are added to the file of a name, and all other files stay.
 abbrev pub Appends : List ℕ → List ℕ → ℕ → Holdings → Holdings → Type 0
 Appends name piece n old new = Assigns name (Some (bytes_in old name ++ take n piece)) old new
+
+-- The file of a name holds these bytes and no others, and all other files stay.
+abbrev pub HoldsAll : List ℕ → List ℕ → Holdings → Holdings → Type 0
+HoldsAll name bytes old new = Assigns name (Some bytes) old new
+
+-- Nothing changed, or the file of a name holds the first of these bytes, perhaps none or all, and all other files stay.
+abbrev pub HoldsFirst : List ℕ → List ℕ → Holdings → Holdings → Type 0
+HoldsFirst name bytes old new = (new ≡ old) ⊎ ((n : ℕ) × HoldsAll name (take n bytes) old new)

@@ -2,7 +2,7 @@
 //! a text.
 //!
 //! [`Files`] and [`Sink`] say what a file and a stream of written bytes mean, and count what failed.
-//! [`read_whole`] and [`send`] go over them with whole texts.
+//! [`read_whole`], [`write_whole`] and [`send`] go over them with whole texts.
 //! [`MemFiles`] and [`MemSink`] are the outside in memory, with calls that fail where they are listed;
 //! [`SoundFiles`] and [`SoundSink`] never fail; [`StdFiles`] and [`StdSink`] are real files and standard output.
 #![tactic(auto)]
@@ -32,7 +32,7 @@ pub use sink::Sink;
 pub use sound::{SoundFiles, SoundSink, sound_counts_never_rise};
 pub use std_files::StdFiles;
 pub use std_sink::StdSink;
-pub use whole::{LONGEST_TEXT, ReadError, WriteError, read_whole, send};
+pub use whole::{LONGEST_TEXT, ReadError, WriteError, read_whole, send, write_whole};
 
 #[cfg(test)]
 mod tests;

@@ -54,6 +54,24 @@ fn send_to_a_sink_whose_first_call_fails(rt: HostRuntime) -> Result<(), Fail> {
     Ok(())
 }
 
+// The calls on a file are its create and then its appends, of which the first takes the whole piece.
+#[test]
+fn whole_file_written(rt: HostRuntime) -> Result<(), Fail> {
+    let alloc = rt.alloc();
+    for (failing, want, held) in [
+        (1, Err(WriteError::WriteFault), b"before".as_slice()),
+        (2, Err(WriteError::WriteFault), b"".as_slice()),
+        (3, Ok(()), b"written".as_slice()),
+    ] {
+        let there = vec![in alloc; stored(alloc, "out", b"before")?]?;
+        let fails = vec![in alloc; (Name::new(alloc, b"out")?, failing)]?;
+        let mut files = MemFiles::new(alloc, there, fails)?;
+        assert!(rt; write_whole(&mut files, "out", b"written") == want);
+        assert!(rt; files.bytes("out") == Some(held));
+    }
+    Ok(())
+}
+
 #[test]
 fn words_and_names_are_kept(rt: HostRuntime) -> Result<(), Fail> {
     let name = Name::new(rt.alloc(), b"n\xff1")?;

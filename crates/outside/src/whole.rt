@@ -1,8 +1,8 @@
 // Whole texts in and out.
 ghost use Rattle.std.specs.Prelude.{◌≡◌, ◌≤◌, ◌<◌, ◌+◌, vec_len, length, IfOk, IfSome, OnOk, OnErr, OnSome, IsErrOf, take};
-ghost use Rattle.outside.specs.Counts.{ChangesReads, NoneFalls, Rose};
+ghost use Rattle.outside.specs.Counts.{ChangesReads, ChangesWrites, NoneFalls, Rose};
 ghost use Rattle.outside.specs.Known.{WhereKnown};
-ghost use Rattle.outside.specs.Files.{bytes_in};
+ghost use Rattle.outside.specs.Files.{bytes_in, HoldsAll, HoldsFirst};
 ghost use Rattle.outside.specs.Sink.{Adds, AddsSome};
 
 use crate::{Files, Refusal, Sink};
@@ -155,6 +155,32 @@ pub fn send<O: Sink>(out: &mut O, bytes: &[u8]) -> Result<(), WriteError>
     let mut sent = 0;
     while sent < bytes.len() {
         sent += out.write(&bytes[sent..])?;
+    }
+    Ok(())
+}
+
+/// Writes a whole file: makes it anew, in the place of the one that was there, and adds all the bytes.
+///
+/// `WriteFault` where it could not be made or a write failed. After a refusal the file was not made, or holds the first
+/// of the bytes, perhaps none.
+pub fn write_whole<F: Files>(files: &mut F, name: &str, bytes: &[u8]) -> Result<(), WriteError>
+    ensures written { OnOk result (WhereKnown (HoldsAll name.now bytes.now) (F.known files.old) (F.known files.new)) }
+    ensures part { OnErr result (WhereKnown (HoldsFirst name.now bytes.now) (F.known files.old) (F.known files.new)) }
+    ensures fault { IsErrOf result WriteError.WriteFault
+        → Rose (F.counts files.old).faults (F.counts files.new).faults }
+    ensures fault_of_name { IsErrOf result WriteError.WriteFault
+        → OnSome (F.known files.old)
+        (Rose ((F.counts files.old).writes name.now) ((F.counts files.new).writes name.now)) }
+
+    // No count falls, none of another name changes, and none at all where the file was written.
+    ensures none_falls { NoneFalls (F.counts files.old) (F.counts files.new) }
+    ensures only { ChangesWrites name.now (F.counts files.old) (F.counts files.new) }
+    ensures calm { OnOk result (F.counts files.new ≡ F.counts files.old) }
+{
+    files.create(name)?;
+    let mut added = 0;
+    while added < bytes.len() {
+        added += files.append(name, &bytes[added..])?;
     }
     Ok(())
 }

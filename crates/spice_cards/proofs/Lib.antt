@@ -6,3 +6,4 @@ pub mod Law
 pub mod Ranges
 pub mod Taking
 pub mod Reading
+pub mod Numbers

@@ -1,5 +1,5 @@
 -- What the cards of a netlist say.
-use Rattle.std.specs.Prelude.{◌≡◌, ◌↔◌, ◌≤ℤ◌, ℕ, ℤ, pos, neg_ℤ, Bool, true, false, List, [], ◌∷◌, ◌++◌, flat_map, slice_get, Contains, Option, None, Some, Ok, if◌then◌else◌}
+use Rattle.std.specs.Prelude.{◌≡◌, ◌↔◌, ◌≤ℤ◌, ℕ, ◌<◌, ℤ, pos, neg_ℤ, Bool, true, false, List, [], ◌∷◌, ◌++◌, flat_map, length, slice_get, All, Contains, Option, None, Some, Ok, if◌then◌else◌}
 use Rattle.grid_net.specs.declared.part.Resistor.{Resistor as NetResistor}
 use Rattle.grid_net.specs.declared.part.Pad.{Pad as NetPad}
 use Rattle.grid_net.specs.declared.part.Load.{Load as NetLoad}
@@ -9,7 +9,6 @@ use Rattle.node_names.specs.Folding.{folded}
 use Rattle.number_place.specs.Place.{IsNumberAt}
 use Rattle.reading.specs.Word.{Token}
 use Rattle.spice_cards.specs.declared.record.Cards.{Cards}
-use Rattle.spice_cards.specs.declared.record.Short.{Short}
 use Rattle.spice_cards.specs.Card.{Card, Resistor, Source, Load, Ends, is_ground, cards_of}
 use Rattle.spice_cards.specs.Fault.{is_zero}
 use Rattle.spice_cards.specs.Number.{ohms, volts, amperes}
@@ -21,7 +20,7 @@ HasNumber names name number = slice_get names number ≡ Some (folded name)
 -- What one card adds to the lists of a network.
 pub record Part : Type 0 where
   pub resistors : List NetResistor
-  pub shorts : List Short
+  pub shorts : List (ℕ × ℕ)
   pub pads : List NetPad
   pub loads : List NetLoad
 
@@ -29,7 +28,7 @@ abbrev pub resistor_part : ℕ → ℕ → ℤ → Part
 resistor_part a b value = record { resistors = record { a = a; b = b; ohms = value } ∷ []; shorts = []; pads = []; loads = [] }
 
 abbrev pub short_part : ℕ → ℕ → Part
-short_part a b = record { resistors = []; shorts = record { a = a; b = b } ∷ []; pads = []; loads = [] }
+short_part a b = record { resistors = []; shorts = (a, b) ∷ []; pads = []; loads = [] }
 
 abbrev pub pad_part : ℕ → ℤ → Part
 pad_part node value = record { resistors = []; shorts = []; pads = record { node = node; volts = value } ∷ []; loads = [] }
@@ -108,3 +107,10 @@ pub record SaysCards (units : List (List Token)) (cards : Cards) : Type 0 where
   pub shorts : cards.shorts.items ≡ flat_map (λ part. part.shorts) parts
   pub pads : cards.pads.items ≡ flat_map (λ part. part.pads) parts
   pub loads : cards.loads.items ≡ flat_map (λ part. part.loads) parts
+
+-- Each number of the cards is that of a name.
+pub record AreNumbered (cards : Cards) : Type 0 where
+  pub resistors : All (λ r. (r.a < length cards.names) × (r.b < length cards.names)) cards.resistors.items
+  pub shorts : All (λ s. (s.0 < length cards.names) × (s.1 < length cards.names)) cards.shorts.items
+  pub pads : All (λ p. p.node < length cards.names) cards.pads.items
+  pub loads : All (λ l. l.node < length cards.names) cards.loads.items

@@ -9,14 +9,14 @@ ghost use Rattle.number_place.specs.Place.{CanRead, IsNumberAt};
 ghost use Rattle.reading.specs.Word.{Token, token};
 ghost use Rattle.spice_cards.specs.Card.{Resistor as ResistorCard, Source as SourceCard, Load as LoadCard, card_in, card_of as card_in_unit, ends_in};
 ghost use Rattle.spice_cards.specs.Number.{amperes};
-ghost use Rattle.spice_cards.specs.Record.{HasNumber, SaysCards, IsRange, LoadsNode, but_ground};
+ghost use Rattle.spice_cards.specs.Record.{HasNumber, SaysCards, AreNumbered, IsRange, LoadsNode, but_ground};
 ghost use Rattle.spice_cards.specs.Card.{is_ground as ground_name};
 ghost use Rattle.spice_cards.specs.inside.Held.{Holds, Adds, AddsUnit, AddsPad, AddsShort, AddsLoad};
 
 use crate::card::{Card, Ends, card_of, is_ground};
 use crate::fault::is_zero;
 use crate::number::{AMPERES, OHMS, VOLTS};
-use crate::record::{Cards, Short};
+use crate::record::Cards;
 use crate::section::Section;
 use grid_net::{Load, Pad, Resistor};
 use node_names::NodeNames;
@@ -50,6 +50,7 @@ impl<'a> Held<'a> {
     /// The record of what the units say.
     pub(crate) fn into_cards(self) -> Cards<'a>
         ensures says { (units : List (List Token)) → Holds units self.entry → SaysCards units result }
+        ensures numbers { (units : List (List Token)) → Holds units self.entry → AreNumbered result }
         ensures ranges { (units : List (List Token)) → Holds units self.entry →
             All (λ load. load.low ≤ℤ load.high) result.loads.items }
     {
@@ -105,7 +106,7 @@ fn take_resistor<'a>(
     let a = number_of(&mut cards.names, a)?;
     let b = number_of(&mut cards.names, b)?;
     if is_zero(ohms) {
-        cards.shorts.push(Short { a, b })?;
+        cards.shorts.push((a, b))?;
     } else {
         cards.resistors.push(Resistor { a, b, ohms })?;
     }
@@ -149,7 +150,7 @@ fn add_short<'a>(
     }
     let a = number_of(&mut cards.names, a)?;
     let b = number_of(&mut cards.names, b)?;
-    cards.shorts.push(Short { a, b })?;
+    cards.shorts.push((a, b))?;
     Ok(())
 }
 

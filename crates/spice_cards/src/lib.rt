@@ -23,7 +23,7 @@ pub use error::{CardsError, CardsKind};
 pub use laws::netlists_have_one_reading;
 pub use number::{AMPERES_LIMIT, OHMS_LIMIT, VOLTS_LIMIT};
 pub use read::read_cards;
-pub use record::{Cards, Short};
+pub use record::Cards;
 
 #[cfg(test)]
 mod tests;

@@ -1,5 +1,6 @@
 ghost use Rattle.std.specs.Prelude.{◌≡◌, ◌≤ℤ◌, All, IfOk};
 ghost use Rattle.spice_cards.specs.Format.{kinds, ReadsCards};
+ghost use Rattle.spice_cards.specs.Record.{AreNumbered};
 ghost use Rattle.reading.specs.Error.{kind_of as kind_in, error_of as error_in};
 
 use crate::error::{CardsError, CardsKind};
@@ -42,6 +43,7 @@ fn error_of(refusal: Refusal<CardsKind>) -> CardsError
 /// Errors: the refusal at the earliest word, and there of the first kind, as `CardsKind` lists them; `Want` for want of memory.
 pub fn read_cards<'a>(alloc: Global, text: &'a [u8]) -> Result<Cards<'a>, CardsError>
     ensures reads { ReadsCards text.now result }
+    ensures numbers { IfOk result AreNumbered }
     ensures ranges { IfOk result (λ cards. All (λ load. load.low ≤ℤ load.high) cards.loads.items) }
 {
     let Ok(mut held) = Held::new(alloc) else {

@@ -1,13 +1,6 @@
 use grid_net::{Load, Pad, Resistor};
 use node_names::NodeNames;
 
-/// A short between two nodes, which are given by their numbers.
-#[derive(Clone, Copy, Debug, PartialEq, Eq)]
-pub struct Short {
-    pub a: u32,
-    pub b: u32,
-}
-
 /// What the cards of a netlist say. A node is given by the number of its name.
 #[derive(Drop)]
 pub struct Cards<'a> {
@@ -17,8 +10,8 @@ pub struct Cards<'a> {
     /// The resistors whose value is not 0, in nΩ and in the order of their cards. A value below 0 or beyond the limit of a network stands
     /// here too.
     pub resistors: Vec<Resistor>,
-    /// The resistors of value 0, and the sources of value 0 between two nodes other than `0`, in the order of their cards.
-    pub shorts: Vec<Short>,
+    /// The two nodes of each resistor of value 0 and of each source of value 0 between two nodes other than `0`, in the order of their cards.
+    pub shorts: Vec<(u32, u32)>,
     /// The pads that sources give, in yV and in the order of their cards.
     pub pads: Vec<Pad>,
     /// The loads, in fA and in the order of their cards, first the one at the first node of a card. None stands at `0`.

@@ -165,7 +165,7 @@ fn record(alloc: Global, cards: &Cards<'_>) -> Result<String, Fail> {
         write!(out, "R {} {} {} ", r.a, r.b, r.ohms)?;
     }
     for s in &cards.shorts {
-        write!(out, "S {} {} ", s.a, s.b)?;
+        write!(out, "S {} {} ", s.0, s.1)?;
     }
     for p in &cards.pads {
         write!(out, "V {} {} ", p.node, p.volts)?;

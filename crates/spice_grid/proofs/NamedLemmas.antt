@@ -1,17 +1,23 @@
 -- The lists that a network is built of, as the cards have them.
-use Rattle.std.proofs.Common.{◌≡◌, ℕ, ◌<◌, ◌⊎◌, inl, inr, List, Some, length, map, get_or, slice_get, IsPermutation, sym, ap, ◌∙◌, subst}
-use Rattle.std.specs.Prelude.{EachIndex, Result, Ok, Err, IfErr, IsErrAnd}
+use Rattle.std.proofs.Common.{◌≡◌, ℕ, ◌<◌, inl, inr, List, Some, length, map, get_or, slice_get, IsPermutation, sym, ap, ◌∙◌}
+use Rattle.std.specs.Prelude.{EachIndex}
 use Rattle.std.proofs.lemmas.List.Sorted.{length_permutation}
 use Rattle.name_table.specs.ByteOrder.{IsInByteOrder}
 use Rattle.grid_net.specs.declared.part.Resistor.{Resistor}
 use Rattle.grid_net.specs.declared.part.Pad.{Pad}
 use Rattle.grid_net.specs.declared.part.Load.{Load}
 use Rattle.grid_net.specs.declared.error.NetError.{NetError}
-use Rattle.grid_net.specs.declared.error.NetError.TheVariants.{Want}
+use Rattle.grid_net.specs.declared.error.NetError.TheVariants as net
 use Rattle.grid_net.specs.Building.{network_of, first_net_refusal, BuildFails}
-use Rattle.spice_grid.specs.declared.cards.Cards.{Cards}
+use Rattle.spice_cards.specs.declared.record.Cards.{Cards}
+use Rattle.spice_cards.specs.Record.{AreNumbered}
+use Rattle.spice_grid.specs.declared.error.NetRefusal.{NetRefusal}
+use Rattle.spice_grid.specs.declared.error.NetRefusal.TheVariants.{Range, PadConflict}
+use Rattle.spice_grid.specs.declared.error.SpiceKind.{SpiceKind}
+use Rattle.spice_grid.specs.declared.error.SpiceKind.TheVariants as kinds
 use Rattle.spice_grid.specs.Place.{placed_resistor, placed_short, placed_pad, placed_load}
-use Rattle.spice_grid.specs.Named.{AreNumbered, IsOrderOf, place_in, all_pads, network_in, refusal_in}
+use Rattle.spice_grid.specs.Named.{IsOrderOf, place_in, all_pads, network_in, refusal_in, IsRefusedFor, RefusesCards}
+use Rattle.spice_grid.specs.inside.Named.{IsToldAs}
 use Rattle.spice_grid.proofs.PlaceLemmas.{place_told, resistors_alike, shorts_alike, pads_alike, loads_alike, pads_within}
 
 -- The lists of the cards, where names stand in this order.
@@ -55,6 +61,11 @@ pub shorts_gathered : (cards : Cards) (ordered : List (List ℕ)) (told read : L
 shorts_gathered cards ordered told read ss o s =
     s ∙ shorts_alike (length cards.names) (λ n. get_or read n 0) (place_in cards.names ordered) (placed cards ordered told read o) cards.shorts.items o.numbered.shorts
 
+-- Want of memory is no refusal of lists.
+no_want : (names : List (List ℕ)) (e : NetError) → e ≡ net.Want → (refusal : NetRefusal) → IsRefusedFor names (Some e) refusal → ⊥
+no_want names e is (Range quantity at number) told = cc
+no_want names e is (PadConflict node first second) told = let k = told.2 in cc
+
 module _ (cards : Cards) (ordered : List (List ℕ)) (nodes : ℕ) (rs : List Resistor) (ps : List Pad) (ls : List Load) (are : AreListsOf cards ordered nodes rs ps ls) where
   pub network_is : network_of nodes rs ps ls ≡ network_in cards ordered
   network_is = λ i. network_of (are.nodes_are i) (are.resistors_are i) (are.pads_are i) (are.loads_are i)
@@ -62,12 +73,14 @@ module _ (cards : Cards) (ordered : List (List ℕ)) (nodes : ℕ) (rs : List Re
   pub refusal_is : first_net_refusal nodes rs ps ls ≡ refusal_in cards ordered
   refusal_is = λ i. first_net_refusal (are.nodes_are i) (are.resistors_are i) (are.pads_are i) (are.loads_are i)
 
-  -- What refuses the lists.
-  pub fails : IsOrderOf cards.names ordered → (e : NetError) → BuildFails nodes rs ps ls e → (e ≡ Want) ⊎ ((names : List (List ℕ)) × IsOrderOf cards.names names × (refusal_in cards names ≡ Some e))
-  fails order e (inl h) = inr (ordered, order, sym refusal_is ∙ h)
-  fails order e (inr h) = inl h.0
+  -- What refuses the lists, and how it is told.
+  told_found : IsOrderOf cards.names ordered → (e : NetError) → first_net_refusal nodes rs ps ls ≡ Some e → (refusal : NetRefusal) → IsRefusedFor ordered (Some e) refusal
+      → IsRefusedFor ordered (refusal_in cards ordered) refusal
+  told_found order e h (Range quantity at number) told = sym refusal_is ∙ h ∙ told
+  told_found order e h (PadConflict node first second) told = (told.0, told.1, sym refusal_is ∙ h ∙ told.2)
 
--- An error that is handed on.
-pub handed_on : {T : Type 0} (r : Result T NetError) (x : NetError) (P : NetError → Type 0) → IsErrAnd r (λ e. e ≡ x) → P x → IfErr r P
-handed_on (Ok v) x P h p = absurd h
-handed_on (Err e) x P h p = subst P (sym h) p
+  pub refuses : IsOrderOf cards.names ordered → (e : NetError) → BuildFails nodes rs ps ls e → (kind : SpiceKind) → IsToldAs ordered e kind → RefusesCards cards kind
+  refuses order e (inl h) (kinds.Net refusal) told = (ordered, order, told_found order e h refusal told)
+  refuses order e (inr h) (kinds.Net refusal) told = absurd (no_want ordered e h.0 refusal told)
+  refuses order e h kinds.Want told = tt
+  refuses order e h kind told = absurd told

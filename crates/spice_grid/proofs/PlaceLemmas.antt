@@ -17,7 +17,7 @@ use Rattle.spice_grid.specs.Place.{placed_resistor, placed_short, placed_pad, pl
 use Rattle.spice_grid.specs.Named.{place_in, ground, ground_pads}
 
 -- No name stands before itself.
-not_before_itself : (a : List ℕ) → IsBefore a a → ⊥
+pub not_before_itself : (a : List ℕ) → IsBefore a a → ⊥
 not_before_itself [] h = h
 not_before_itself (x ∷ xs) (inl h) = omega arith
 not_before_itself (x ∷ xs) (inr h) = not_before_itself xs h.1

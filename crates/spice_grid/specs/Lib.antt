@@ -1,4 +1,5 @@
 pub mod Place
 pub mod Named
+pub mod Netlist
 pub mod Written
 pub mod inside

@@ -1,23 +1,21 @@
 -- The network of a netlist's cards, with its nodes in the byte order of their names.
-use Rattle.std.specs.Prelude.{◌≡◌, ℕ, ◌<◌, pos, List, [], ◌++◌, length, map, codes, All, IsPermutation, Option, position, slice_index_or}
+use Rattle.std.specs.Prelude.{◌≡◌, ℕ, pos, List, [], ◌++◌, length, map, codes, IsPermutation, Option, Some, position, slice_get, slice_index_or}
 use Rattle.std.specs.List.{position_or_len}
 use Rattle.std.specs.Option.{option_map, option_to_list}
 use Rattle.std.specs.Str.{bytes_eq}
 use Rattle.name_table.specs.ByteOrder.{IsInByteOrder}
 use Rattle.grid_net.specs.declared.part.Pad.{Pad}
 use Rattle.grid_net.specs.declared.error.NetError.{NetError}
+use Rattle.grid_net.specs.declared.error.NetError.TheVariants as net
 use Rattle.grid_net.specs.Network.{Network}
 use Rattle.grid_net.specs.Building.{network_of, first_net_refusal}
-use Rattle.spice_grid.specs.declared.cards.Cards.{Cards}
+use Rattle.spice_cards.specs.declared.record.Cards.{Cards}
+use Rattle.spice_grid.specs.declared.error.NetRefusal.{NetRefusal}
+use Rattle.spice_grid.specs.declared.error.NetRefusal.TheVariants.{Range, PadConflict}
+use Rattle.spice_grid.specs.declared.error.SpiceKind.{SpiceKind}
+use Rattle.spice_grid.specs.declared.error.SpiceKind.TheVariants.{Net, Want}
 use Rattle.spice_grid.specs.declared.named.Named.{Named}
 use Rattle.spice_grid.specs.Place.{placed_resistor, placed_short, placed_pad, placed_load}
-
--- Each number of the cards is that of a name.
-pub record AreNumbered (cards : Cards) : Type 0 where
-  pub resistors : All (λ r. (r.a < length cards.names) × (r.b < length cards.names)) cards.resistors.items
-  pub shorts : All (λ s. (s.0 < length cards.names) × (s.1 < length cards.names)) cards.shorts.items
-  pub pads : All (λ p. p.node < length cards.names) cards.pads.items
-  pub loads : All (λ l. l.node < length cards.names) cards.loads.items
 
 -- The same names in byte order.
 pub record IsOrderOf (names ordered : List (List ℕ)) : Type 0 where
@@ -60,3 +58,17 @@ pub record IsNamed (cards : Cards) (named : Named) : Type 0 where
   pub order : IsOrderOf cards.names named.names
   pub network : named.net ≡ network_in cards named.names
   pub shorts : named.shorts ≡ map (placed_short (place_in cards.names named.names)) cards.shorts.items
+
+-- What refuses a network tells so, where its nodes have these names: a quantity with its place and number, or the name of a
+-- node and the voltages of its two pads that differ.
+abbrev pub IsRefusedFor : List (List ℕ) → Option NetError → NetRefusal → Type 0
+IsRefusedFor names found (Range quantity at number) = found ≡ Some (net.Range quantity at number)
+IsRefusedFor names found (PadConflict node first second) =
+    (number : ℕ) × (slice_get names number ≡ Some node) × (found ≡ Some (net.PadConflict number first second))
+
+-- Why the cards make no network; want of memory aside.
+abbrev pub RefusesCards : Cards → SpiceKind → Type 0
+RefusesCards cards (Net refusal) =
+    (names : List (List ℕ)) × IsOrderOf cards.names names × IsRefusedFor names (refusal_in cards names) refusal
+RefusesCards cards Want = Unit {0}
+RefusesCards cards _ = ⊥

@@ -9,7 +9,7 @@ use Rattle.grid_net.specs.declared.part.Resistor.{Resistor}
 use Rattle.grid_net.specs.declared.part.Pad.{Pad}
 use Rattle.grid_net.specs.declared.part.LoadRange.{LoadRange}
 use Rattle.grid_net.specs.Network.{Network}
-use Rattle.spice_grid.specs.declared.note.Note.{Note}
+use Rattle.grid_net.specs.declared.note.Note.{Note}
 use Rattle.spice_grid.specs.Named.{ground}
 
 -- A line: its words with single blanks (32) between them, and the line feed (10).

@@ -1,20 +1,22 @@
-//! Netlists and networks: the nodes of a netlist's cards put in the byte order of their names, and a network written as
-//! a netlist.
+//! Netlists and networks: a netlist read as a network whose nodes stand in the byte order of their names, and a network
+//! written as a netlist.
 //!
 //! The form of a netlist is that of the IBM power grid benchmarks (S. R. Nassif, "Power Grid Analysis Benchmarks",
 //! ASP-DAC 2008), which SPICE reads: resistors, voltage sources to ground and current sources to ground. Units:
-//! nano-ohms, yoctovolts and femtoamperes.
+//! nano-ohms, yoctovolts and femtoamperes. The cards are read by `spice_cards`.
 #![tactic(auto)]
 
-mod cards;
+mod error;
+mod laws;
 mod named;
-mod note;
+mod netlist;
 mod place;
 mod written;
 
-pub use cards::Cards;
+pub use error::{NetRefusal, SpiceError, SpiceKind};
+pub use laws::texts_have_one_netlist;
 pub use named::Named;
-pub use note::Note;
+pub use netlist::read_netlist;
 pub use written::netlist_text;
 
 #[cfg(test)]

@@ -7,9 +7,8 @@ ghost use Rattle.spice_grid.specs.Named.{ground};
 ghost use Rattle.spice_grid.specs.Written.{note_line, resistor_line, pad_line, load_lines, range_line, numbered_card, card_end, draws, drawing_loads, written_netlist};
 ghost use Rattle.spice_grid.specs.inside.Written.{card_head};
 
-use crate::note::Note;
 use fixed_decimal::print;
-use grid_net::{LoadRange, Net, Pad, Resistor};
+use grid_net::{LoadRange, Net, Note, Pad, Resistor};
 use itoa::Buffer;
 use outside::Name;
 use std::alloc::{AllocError, Global};

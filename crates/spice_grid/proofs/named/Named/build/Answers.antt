@@ -3,7 +3,7 @@ use Rattle.grid_net.specs.declared.part.Pad.{Pad}
 use Rattle.grid_net.specs.declared.part.Load.{Load}
 use Rattle.spice_grid.specs.Named.{IsNamed, refusal_in}
 use Rattle.spice_grid.proofs.PlaceLemmas.{pads_within, ranges_placed}
-use Rattle.spice_grid.proofs.NamedLemmas.{Orders, is_order, gathered, shorts_gathered, network_is, refusal_is, fails, handed_on}
+use Rattle.spice_grid.proofs.NamedLemmas.{Orders, is_order, gathered, shorts_gathered, network_is, refusal_is, refuses}
 use Rattle.spice_grid.proofs.named.Named.build.Goals as goal
 
 pub place_all-requires-clause-pads : goal.place_all-requires-clause-pads
@@ -19,18 +19,18 @@ build-requires c =
     let all = ranges_placed (λ n. get_or c.deref.result.now n 0) c.args.cards.loads.items c.requires.ranges in
     record { ranges = subst (λ (l : List Load). All (λ l. l.low ≤ℤ l.high) l) (sym c.place_all.ensures.loads) all }
 
-pub returns-in_err-net-clause-refused : goal.returns-in_err-net-clause-refused
-returns-in_err-net-clause-refused c =
+pub returns-clause-refused : goal.returns-clause-refused
+returns-clause-refused c =
     let cards = c.args.cards in
     let found = c.in_ok-names.ensures in
     let ordered : List (List ℕ) = c.in_ok-names.field-0.names.items in
     let read = c.deref.ensures.value in
     let orders : Orders cards ordered c.in_ok-names.field-0.places.items c.deref.result.now = record { numbered = c.requires.numbers; order = found.order; same_names = found.same_names; each = found.places; same = read } in
     let are = gathered cards ordered _ _ _ _ _ _ _ orders c.len-nodes.ensures.len c.place_all.ensures.resistors c.in_ok-add_ground.ensures c.place_all.ensures.pads c.place_all.ensures.loads in
-    handed_on _ _ _ c.from_residual-in_err-net.ensures.1 (fails cards ordered _ _ _ _ are (is_order cards ordered _ _ orders) _ c.in_err-net.ensures.refused)
+    refuses cards ordered _ _ _ _ are (is_order cards ordered _ _ orders) _ c.in-Err.ensures.refused _ c.refusal_of.ensures
 
-pub returns-clause-named : goal.returns-clause-named
-returns-clause-named c =
+pub returns-in-Ok-clause-named : goal.returns-in-Ok-clause-named
+returns-in-Ok-clause-named c =
     let cards = c.args.cards in
     let found = c.in_ok-names.ensures in
     let ordered : List (List ℕ) = c.in_ok-names.field-0.names.items in
@@ -38,15 +38,15 @@ returns-clause-named c =
     let orders : Orders cards ordered c.in_ok-names.field-0.places.items c.deref.result.now = record { numbered = c.requires.numbers; order = found.order; same_names = found.same_names; each = found.places; same = read } in
     let are = gathered cards ordered _ _ _ _ _ _ _ orders c.len-nodes.ensures.len c.place_all.ensures.resistors c.in_ok-add_ground.ensures c.place_all.ensures.pads c.place_all.ensures.loads in
     let written : ordered ≡ c.new.result = sym c.new.ensures in
-    subst (λ (names : List (List ℕ)). IsNamed cards (record { net = c.in_ok-net.net; names = names; shorts = c.new-2.result })) written
+    subst (λ (names : List (List ℕ)). IsNamed cards (record { net = c.in-Ok.net; names = names; shorts = c.new-in-Ok.result })) written
     (record {
       order = is_order cards ordered _ _ orders;
-      network = c.in_ok-net.ensures.built ∙ network_is cards ordered _ _ _ _ are;
-      shorts = c.new-2.ensures ∙ shorts_gathered cards ordered _ _ _ orders c.place_all.ensures.shorts;
+      network = c.in-Ok.ensures.built ∙ network_is cards ordered _ _ _ _ are;
+      shorts = c.new-in-Ok.ensures ∙ shorts_gathered cards ordered _ _ _ orders c.place_all.ensures.shorts;
     })
 
-pub returns-clause-not_refused : goal.returns-clause-not_refused
-returns-clause-not_refused c =
+pub returns-in-Ok-clause-not_refused : goal.returns-in-Ok-clause-not_refused
+returns-in-Ok-clause-not_refused c =
     let cards = c.args.cards in
     let found = c.in_ok-names.ensures in
     let ordered : List (List ℕ) = c.in_ok-names.field-0.names.items in
@@ -54,4 +54,4 @@ returns-clause-not_refused c =
     let orders : Orders cards ordered c.in_ok-names.field-0.places.items c.deref.result.now = record { numbered = c.requires.numbers; order = found.order; same_names = found.same_names; each = found.places; same = read } in
     let are = gathered cards ordered _ _ _ _ _ _ _ orders c.len-nodes.ensures.len c.place_all.ensures.resistors c.in_ok-add_ground.ensures c.place_all.ensures.pads c.place_all.ensures.loads in
     let written : ordered ≡ c.new.result = sym c.new.ensures in
-    ap (refusal_in cards) (sym written) ∙ sym (refusal_is cards ordered _ _ _ _ are) ∙ c.in_ok-net.ensures.not_refused refl
+    ap (refusal_in cards) (sym written) ∙ sym (refusal_is cards ordered _ _ _ _ are) ∙ c.in-Ok.ensures.not_refused refl

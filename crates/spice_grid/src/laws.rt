@@ -1,0 +1,26 @@
+//! The law of the definition, on a function that does nothing.
+ghost use Rattle.std.specs.Prelude.{◌≡◌, ◌≢◌, ℕ, List, Ok, Err};
+ghost use Rattle.spice_grid.specs.declared.error.SpiceError.{SpiceError as Error};
+ghost use Rattle.spice_grid.specs.declared.error.SpiceKind.TheVariants.{Want};
+ghost use Rattle.spice_grid.specs.declared.named.Named.{Named as Record};
+ghost use Rattle.spice_grid.specs.Netlist.{ReadsNetlist, IsAtWord};
+
+use name_table::one_order;
+use number_place::texts_have_one_number;
+use spice_cards::netlists_have_one_reading;
+
+/// A text has one record or one refusal, and not both; want of memory aside. Where the network of the whole text is
+/// refused, nothing is said of a place.
+pub fn texts_have_one_netlist()
+    ensures record { (text : List ℕ) (a b : Record) → ReadsNetlist text (Ok a) → ReadsNetlist text (Ok b) → a ≡ b }
+    ensures kind { (text : List ℕ) (a b : Error) → ReadsNetlist text (Err a) → ReadsNetlist text (Err b) →
+        a.kind ≢ Want → b.kind ≢ Want → a.kind ≡ b.kind }
+    ensures place { (text : List ℕ) (a b : Error) → ReadsNetlist text (Err a) → ReadsNetlist text (Err b) →
+        IsAtWord a.kind → b.kind ≢ Want → a.place ≡ b.place }
+    ensures not_both { (text : List ℕ) (named : Record) (error : Error) → ReadsNetlist text (Ok named) →
+        ReadsNetlist text (Err error) → error.kind ≡ Want }
+{
+    netlists_have_one_reading();
+    texts_have_one_number();
+    one_order();
+}

@@ -1,0 +1,5 @@
+pub mod Chains
+pub mod Steps
+pub mod Links
+pub mod Numbers
+pub mod Whole

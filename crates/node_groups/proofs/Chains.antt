@@ -1,6 +1,6 @@
--- Chains of shorts: they go on from one another and back, and a labelling that agrees along each short agrees along them.
-use Rattle.std.proofs.Common.{◌≡◌, ℕ, zero, suc, ◌<◌, inl, inr, refl, sym, ap, subst, ◌∙◌, List, All, length, get_or}
-use Rattle.std.proofs.lemmas.List.Elements.{All-contains, Contains-get_or}
+-- Chains of shorts: they go on from one another and back.
+use Rattle.std.proofs.Common.{ℕ, zero, suc, ◌<◌, inl, inr, refl, sym, subst, List, length, get_or}
+use Rattle.std.proofs.lemmas.List.Elements.{Contains-get_or}
 use Rattle.node_groups.specs.Joined.{IsShorted, IsChain, AreJoined}
 
 pub joined_self : (shorts : List (ℕ × ℕ)) (i : ℕ) → AreJoined shorts i i
@@ -26,29 +26,6 @@ back_from shorts (suc k) m j i chain way =
 
 pub joined_back : (shorts : List (ℕ × ℕ)) (i j : ℕ) → AreJoined shorts i j → AreJoined shorts j i
 joined_back shorts i j h = back_from shorts h.0 i j i h.1 (joined_self shorts i)
-
--- ---- labels
--- The ends of each short have one label.
-abbrev pub Agree : (ℕ → ℕ) → List (ℕ × ℕ) → Type 0
-Agree label shorts = All (λ (s : ℕ × ℕ). label s.0 ≡ label s.1) shorts
-
-label_along : (label : ℕ → ℕ) (shorts : List (ℕ × ℕ)) → Agree label shorts → (i j : ℕ) → IsShorted shorts i j
-    → label i ≡ label j
-label_along label shorts all i j h = elim h [
-  | inl s ↦ All-contains (λ (s : ℕ × ℕ). label s.0 ≡ label s.1) shorts (i, j) all s
-  | inr s ↦ sym (All-contains (λ (s : ℕ × ℕ). label s.0 ≡ label s.1) shorts (j, i) all s)
-]
-
-chain_label : (label : ℕ → ℕ) (shorts : List (ℕ × ℕ)) → Agree label shorts → (k i j : ℕ) → IsChain shorts k i j
-    → label i ≡ label j
-chain_label label shorts all zero i j e = ap label e
-chain_label label shorts all (suc k) i j chain =
-    label_along label shorts all i chain.0 chain.1 ∙ chain_label label shorts all k chain.0 j chain.2
-
--- Joined nodes have one label.
-pub joined_label : (label : ℕ → ℕ) (shorts : List (ℕ × ℕ)) → Agree label shorts → (i j : ℕ) → AreJoined shorts i j
-    → label i ≡ label j
-joined_label label shorts all i j h = chain_label label shorts all h.0 i j h.1
 
 -- The ends of a short of the list are joined.
 pub one_short : (shorts : List (ℕ × ℕ)) (k : ℕ) (d : ℕ × ℕ) → k < length shorts

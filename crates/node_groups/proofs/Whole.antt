@@ -7,7 +7,8 @@ use Rattle.std.proofs.lemmas.List.Elements.{All-from_get_or}
 use Rattle.node_groups.specs.Joined.{AreJoined}
 use Rattle.node_groups.specs.Groups.{AreGroups}
 use Rattle.node_groups.specs.inside.Forest.{LeadsBack, IsByShorts, Joins, AreNumbered}
-use Rattle.node_groups.proofs.Chains.{joined_self, joined_trans, joined_back, joined_label}
+use Rattle.node_groups.proofs.Chains.{joined_self, joined_trans, joined_back}
+use Rattle.node_groups.specs.Laws.{joined_label}
 use Rattle.node_groups.proofs.Links.{steps_join}
 
 -- ---- each node by itself

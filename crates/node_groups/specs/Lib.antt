@@ -1,3 +1,4 @@
 pub mod Joined
 pub mod Groups
+pub mod Laws
 pub mod inside

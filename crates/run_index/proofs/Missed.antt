@@ -7,7 +7,7 @@ use Rattle.std.specs.Int.{int_max, int_min}
 use Rattle.geom_rect.specs.declared.run.Run.{Run}
 use Rattle.run_index.specs.declared.bounds.Bounds.{Bounds}
 use Rattle.run_index.specs.declared.entry.Entry.{Entry}
-use Rattle.run_index.specs.Entry.{share_cell, lies_across, along}
+use Rattle.run_index.specs.Entry.{share_cell, lies_across, along_of}
 use Rattle.run_index.specs.inside.Tree.{IsWithin, AreWithin, Misses}
 
 other_group : (a b : ℕ) → (a < b) ⊎ (b < a) → (a == b) ≡ false

@@ -12,5 +12,6 @@ share_cell a b = int_lt (int_max a.from b.from) (int_min a.to b.to)
 abbrev pub lies_across : ℕ → Run → Entry → Bool
 lies_across group window entry = (entry.group == group) && share_cell entry.across window
 
-abbrev pub along : Entry → Run
-along entry = entry.along
+-- What is found of the entry.
+abbrev pub along_of : Entry → Run
+along_of entry = entry.along

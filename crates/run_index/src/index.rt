@@ -1,6 +1,6 @@
 ghost use Rattle.std.specs.Prelude.{◌≡◌, IfOk, filter, map};
 ghost use Rattle.std.specs.List.Sorted.{IsPermutation};
-ghost use Rattle.run_index.specs.Entry.{lies_across, along};
+ghost use Rattle.run_index.specs.Entry.{lies_across, along_of};
 
 use crate::entry::Entry;
 use crate::tree::{Tree, build, find};
@@ -40,7 +40,7 @@ impl RunIndex {
 
     /// The runs along of all entries of the group that have a cell of the window across.
     pub fn found(&self, alloc: Global, group: u32, window: Run) -> Result<Vec<Run>, AllocError>
-        ensures { IfOk result (λ runs. runs.items ≡ map along (filter (lies_across group window) self.now)) }
+        ensures { IfOk result (λ runs. runs.items ≡ map along_of (filter (lies_across group window) self.now)) }
     {
         let mut found = Vec::new(alloc);
         find(&self.tree, group, window, &mut found)?;

@@ -4,7 +4,11 @@
 mod bounds;
 mod entry;
 mod index;
+mod laws;
+#[cfg(test)]
+mod tests;
 mod tree;
 
 pub use entry::Entry;
 pub use index::RunIndex;
+pub use laws::shared_cells;

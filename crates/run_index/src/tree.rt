@@ -1,5 +1,5 @@
 ghost use Rattle.std.specs.Prelude.{◌≡◌, ◌++◌, IfOk, OnOk, filter, map};
-ghost use Rattle.run_index.specs.Entry.{lies_across, along};
+ghost use Rattle.run_index.specs.Entry.{lies_across, along_of};
 ghost use Rattle.run_index.specs.inside.Tree.{entries_of, IsBounded};
 
 use crate::bounds::{Bounds, bounds_of, misses};
@@ -26,9 +26,9 @@ pub(crate) fn build(alloc: Global, entries: &[Entry]) -> Result<Tree, AllocError
         return Ok(Tree::Few(bounds, copy(alloc, entries)?));
     }
     let (left, right) = entries.split_at(entries.len() / 2);
-    let left = Box::new(alloc, build(alloc, left)?)?;
-    let right = Box::new(alloc, build(alloc, right)?)?;
-    Ok(Tree::Two(bounds, left, right))
+    let low = Box::new(alloc, build(alloc, left)?)?;
+    let high = Box::new(alloc, build(alloc, right)?)?;
+    Ok(Tree::Two(bounds, low, high))
 }
 
 fn copy(alloc: Global, entries: &[Entry]) -> Result<Vec<Entry>, AllocError>
@@ -46,7 +46,7 @@ pub(crate) fn find(
 ) -> Result<(), AllocError>
     requires { IsBounded tree.now }
     ensures { OnOk result (found.new.items
-        ≡ found.old.items ++ map along (filter (lies_across group window) (entries_of tree.now))) }
+        ≡ found.old.items ++ map along_of (filter (lies_across group window) (entries_of tree.now))) }
 {
     match tree {
         Tree::Few(_, entries) => find_among(entries, group, window, found),
@@ -67,7 +67,7 @@ fn find_among(
     found: &mut Vec<Run>,
 ) -> Result<(), AllocError>
     ensures { OnOk result (found.new.items
-        ≡ found.old.items ++ map along (filter (lies_across group window) entries.now)) }
+        ≡ found.old.items ++ map along_of (filter (lies_across group window) entries.now)) }
 {
     for entry in entries {
         if lies_across(group, window, *entry) {

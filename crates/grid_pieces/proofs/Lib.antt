@@ -1,0 +1,12 @@
+pub mod Indexed
+pub mod OneLine
+pub mod Grouped
+pub mod Pieced
+pub mod Lines
+pub mod Arranged
+pub mod Sweeping
+pub mod First
+pub mod Moved
+pub mod Upright
+pub mod Tested
+pub mod Kept

@@ -1,0 +1,4 @@
+pub mod Voltages
+pub mod Rows
+pub mod Law
+pub mod Texts

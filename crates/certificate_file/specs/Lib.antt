@@ -1,0 +1,9 @@
+pub mod Sort
+pub mod Section
+pub mod Rule
+pub mod Voltage
+pub mod Fault
+pub mod Record
+pub mod Format
+pub mod Written
+pub mod inside

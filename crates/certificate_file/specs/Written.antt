@@ -1,0 +1,16 @@
+-- The text of a certificate. Names are lists of bytes, voltages are yoctovolts.
+use Rattle.std.specs.Prelude.{ℕ, ℤ, List, [], ◌∷◌, ◌++◌, codes}
+use Rattle.fixed_decimal.specs.Printed.{printed}
+
+-- The line of a node: its name, its high and its low voltage, with single blanks.
+abbrev pub row_text : List ℕ → ℤ → ℤ → List ℕ
+row_text name high low = name ++ (codes " " ++ (printed high 0 ++ (codes " " ++ (printed low 0 ++ codes "\n"))))
+
+-- The lines of the nodes.
+abbrev pub rows_text : List (List ℕ) → List ℤ → List ℤ → List ℕ
+rows_text (name ∷ names) (high ∷ highs) (low ∷ lows) = row_text name high low ++ rows_text names highs lows
+rows_text _ _ _ = []
+
+-- The first line, the lines of the nodes, and the line `end`.
+abbrev pub certificate_text : List (List ℕ) → List ℤ → List ℤ → List ℕ
+certificate_text names high low = codes "pdn certificate 1\n" ++ (rows_text names high low ++ codes "end\n")

@@ -1,0 +1,24 @@
+//! The law of the definition, on a function that does nothing.
+ghost use Rattle.std.specs.Prelude.{ℕ, List, Result};
+ghost use Rattle.reading.specs.declared.error.ReadError.{ReadError as Error};
+ghost use Rattle.reading.specs.Error.{Agree};
+ghost use Rattle.certificate_file.specs.Format.{ReadsCertificate};
+ghost use Rattle.certificate_file.specs.declared.lists.Lists.{Lists as Record};
+ghost use Rattle.certificate_file.specs.declared.error.CertKind.{CertKind as Kind};
+ghost use Rattle.certificate_file.specs.declared.error.CertKind.TheVariants.{Want};
+
+use crate::format::CertificateFormat;
+use fixed_decimal::texts_have_one_answer;
+use outside::Name;
+use reading::texts_have_one_result;
+use text_lex::one_split;
+
+/// A text has one pair of lists or one refusal for these names, and not both; want of memory aside.
+pub fn texts_have_one_certificate(names: &[Name])
+    ensures { (text : List ℕ) (a b : Result Record (Error Kind)) → ReadsCertificate names.now text a →
+        ReadsCertificate names.now text b → Agree Want a b }
+{
+    one_split();
+    texts_have_one_answer();
+    texts_have_one_result(&CertificateFormat { names });
+}

@@ -1,3 +1,4 @@
 pub mod FoldedLemmas
 pub mod KeyLemmas
 pub mod EntryLemmas
+pub mod HeadLemmas

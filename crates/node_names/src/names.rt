@@ -8,7 +8,7 @@ ghost use Rattle.node_names.specs.Folding.{folded};
 ghost use Rattle.node_names.specs.inside.Keys.{names_in};
 ghost use Rattle.node_names.specs.inside.Entries.{entry_of, entries_of, entry_cmp, IsPlaced};
 
-use crate::key::Key;
+use crate::key::{Key, head_of};
 use indexmap::IndexSet;
 use name_table::{MOST_NAMES, NameError};
 use outside::Name;
@@ -80,14 +80,14 @@ impl<'a> NodeNames<'a> {
     pub fn contains(&self, name: &'a [u8]) -> bool
         ensures { IsTrue result ↔ Contains self.now (folded name.now) }
     {
-        self.keys.contains(&Key { name })
+        self.keys.contains(&Key { name, head: head_of(name) })
     }
 
     /// The number of a name that the table holds.
     pub fn get(&self, name: &'a [u8]) -> Option<u32>
         ensures { result ≡ position (bytes_eq (folded name.now)) self.now }
     {
-        let number = self.keys.get_index_of(&Key { name })?;
+        let number = self.keys.get_index_of(&Key { name, head: head_of(name) })?;
         Some(number as u32)
     }
 
@@ -101,7 +101,7 @@ impl<'a> NodeNames<'a> {
         ensures want { result ≡ Err NameError.Want → ¬ Contains self.old (folded name.now) }
         ensures distinct { AreDistinct self.new }
     {
-        let key = Key { name };
+        let key = Key { name, head: head_of(name) };
         if self.keys.len() == MOST_NAMES {
             let Some(number) = self.keys.get_index_of(&key) else {
                 return Err(NameError::Full);
@@ -143,7 +143,7 @@ fn sorted<'a>(alloc: Global, keys: &[Key<'a>]) -> Result<Vec<Numbered<'a>>, Allo
             number: number as u32,
         })?;
     }
-    sorted.sort_unstable();
+    sorted.sort()?;
     Ok(sorted)
 }
 

@@ -21,7 +21,7 @@ pub returns-then-len-eq-MOST_NAMES-clause-number :
     goal.returns-then-len-eq-MOST_NAMES-clause-number
 returns-then-len-eq-MOST_NAMES-clause-number c =
     let P : List (List ℕ) → Type 0 = λ names. slice_get names c.in-Some.number ≡ Some (folded c.args.name.now) in
-    subst P c.self.view_is (name_at_first name_in c.self.inside.keys.keys c.in-Some.number (record { name = c.args.name }) (sym c.in-Some.ensures.index))
+    subst P c.self.view_is (name_at_first name_in c.self.inside.keys.keys c.in-Some.number (record { name = c.args.name; head = c.head_of.result; begun = c.head_of.ensures }) (sym c.in-Some.ensures.index))
 
 pub returns-then-len-eq-MOST_NAMES-clause-taken : goal.returns-then-len-eq-MOST_NAMES-clause-taken
 returns-then-len-eq-MOST_NAMES-clause-taken c =
@@ -51,13 +51,13 @@ returns-in_default-insert_full-clause-distinct c = names_are_distinct name_in c.
 pub returns-clause-number : goal.returns-clause-number
 returns-clause-number c =
     let stored = c.in-Ok.ensures.stored in
-    name_there name_in c.insert_full.new.self.keys c.in-Ok.number (record { name = c.args.name }) stored.0 (ap (λ i. slice_get c.insert_full.new.self.keys i) c.in-Ok.number-is ∙ stored.1) stored.2
+    name_there name_in c.insert_full.new.self.keys c.in-Ok.number (record { name = c.args.name; head = c.head_of.result; begun = c.head_of.ensures }) stored.0 (ap (λ i. slice_get c.insert_full.new.self.keys i) c.in-Ok.number-is ∙ stored.1) stored.2
 
 pub returns-clause-taken : goal.returns-clause-taken
 returns-clause-taken c =
     let P : List (List ℕ) → Type 0 = λ names. TakesName names (names_in c.insert_full.new.self.keys) (folded c.args.name.now) in
     let Q : List (List ℕ) → Type 0 = λ names. TakesName (names_in c.self.inside.keys.keys) names (folded c.args.name.now) in
-    subst P c.self.view_is (subst Q (ap names_in (sym c.in-Ok.ensures.keys)) (takes name_in c.self.inside.keys.keys (record { name = c.args.name })))
+    subst P c.self.view_is (subst Q (ap names_in (sym c.in-Ok.ensures.keys)) (takes name_in c.self.inside.keys.keys (record { name = c.args.name; head = c.head_of.result; begun = _ })))
 
 pub returns-clause-distinct : goal.returns-clause-distinct
 returns-clause-distinct c = names_are_distinct name_in c.insert_full.new.self.keys c.insert_full.ensures.unique

@@ -1,0 +1,4 @@
+pub mod Netlist
+pub mod Merged
+pub mod Refusal
+pub mod inside

@@ -1,0 +1,15 @@
+use Rattle.std.proofs.Common.{ℕ, ℤ, arith, rules}
+use Rattle.std.specs.Ordering.{is_lt}
+use Rattle.std.specs.List.Sorted.{IsSortedBy}
+use Rattle.std.proofs.lemmas.List.Sorted.{answers_always}
+use Rattle.grid_stacks.specs.declared.bar.Bar.{Bar}
+use Rattle.grid_pieces.specs.Laws.Orders.{in_order}
+use Rattle.grid_stacks.proofs.Ordered.{net_order, net_total}
+use Rattle.grid_stacks.proofs.bar.sort_by_net.Goals as goal
+
+pub returns-clause-in_order : goal.returns-clause-in_order
+returns-clause-in_order c i j d less within =
+    let key : Bar → ℕ × ℤ = λ (p : Bar). (p.net, p.low) in
+    let sorted : IsSortedBy (λ x y. is_lt (net_order x y)) c.sort_unstable_by_key.new.self =
+    c.sort_unstable_by_key.ensures.sorted key (answers_always _ _ _ (λ f a r f' called. search rules)) in
+    in_order net_order net_total c.sort_unstable_by_key.new.self sorted i j d (omega arith) within

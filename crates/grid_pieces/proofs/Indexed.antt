@@ -1,15 +1,12 @@
 -- What is found across a line is what is blocked on it.
-use Rattle.std.proofs.Common.{◌≡◌, ◌↔◌, IsTrue, Bool, true, false, ◌&&◌, ◌==◌, int_lt, ℕ, ℤ, ◌-ℤ◌, ◌+ℤ◌, ◌<ℤ◌, List, map, filter, Option, Some, None, subst, refl, sym, ap, ◌∙◌, arith, eq-eqb}
+use Rattle.std.proofs.Common.{◌≡◌, ◌↔◌, IsTrue, ◌==◌, ℕ, ℤ, ◌-ℤ◌, ◌+ℤ◌, ◌<ℤ◌, List, map, filter, Some, subst, refl, sym, ap, ◌∙◌, eq-eqb}
 use Rattle.std.specs.List.{filter_map}
 use Rattle.std.specs.List.Sorted.{IsPermutation}
 use Rattle.std.specs.Int.{int_max, int_min}
-use Rattle.std.proofs.lemmas.Int.{ints, clamps}
-use Rattle.std.proofs.lemmas.Bool.{false≢true}
 use Rattle.geom_rect.specs.Drawn.{half}
 use Rattle.geom_rect.specs.Rect.{ShareArea}
 use Rattle.geom_rect.specs.Run.{HasCell, IsHeld}
-use Rattle.geom_rect.specs.declared.direction.Axis.{Axis}
-use Rattle.geom_rect.specs.declared.direction.Axis.TheVariants.{X, Y}
+use Rattle.geom_rect.specs.declared.direction.Axis.TheVariants.{X}
 use Rattle.geom_rect.specs.declared.rect.Rect.{Rect}
 use Rattle.geom_rect.specs.declared.run.Run.{Run}
 use Rattle.lef_tech.specs.declared.layer.LayerRef.{LayerRef}
@@ -19,7 +16,7 @@ use Rattle.run_index.specs.declared.entry.Entry.{Entry}
 use Rattle.grid_pieces.specs.declared.line.Line.{Line}
 use Rattle.grid_pieces.specs.declared.piece.Block.{Block}
 use Rattle.grid_pieces.specs.Line.{cell_rect, along, across}
-use Rattle.grid_pieces.specs.Piece.{Among, IsBlocked}
+use Rattle.grid_pieces.specs.Piece.{IsBlocked}
 use Rattle.grid_pieces.specs.inside.Blockages.{window_of, entry_on, entry_of, block_of, blocks_of, AreIndexed, BlockAlike}
 use Rattle.grid_pieces.specs.Laws.Amongst.{Among-map, Among-filter, Among-filter_map, Among-permutation, Among-same, same_value, none_is_no_value}
 use Rattle.grid_pieces.specs.Laws.Found.{and_both, and_of, wide_iff, place_of_true}

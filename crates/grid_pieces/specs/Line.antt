@@ -18,11 +18,11 @@ piece_line p = record { net = p.net; layer = p.layer; axis = p.axis; centre = p.
 abbrev pub piece_run : Piece → Run
 piece_run p = record { from = p.from; to = p.to }
 
--- the metal of a piece
+-- The metal of a piece.
 abbrev pub piece_rect : Piece → Rect
 piece_rect p = centred p.axis p.centre p.width p.from p.to
 
--- cell t of a line: the unit from t to t + 1 along it, over its width
+-- Cell t of a line: the unit from t to t + 1 along it, over its width.
 abbrev pub cell_rect : Line → ℤ → Rect
 cell_rect l t = centred l.axis l.centre l.width t (t +ℤ pos 1)
 

@@ -11,32 +11,34 @@ use Rattle.grid_pieces.specs.declared.piece.StackAt.{StackAt}
 use Rattle.grid_pieces.specs.declared.touch.Touching.{Touching}
 use Rattle.grid_pieces.specs.Line.{piece_rect}
 
--- a piece has its rectangle on its layer
+-- A piece has its rectangle on its layer.
 abbrev pub piece_metal : Piece → Metal
 piece_metal p = record { layer = p.layer; rect = piece_rect p; net = p.net }
 
--- a stack has its crossing on a layer
+-- A stack has its crossing on a layer.
 abbrev pub stack_metal : StackAt → ℕ → Metal
 stack_metal s layer = record { layer = layer; rect = s.crossing; net = s.net }
 
--- the numbers above a and below b
+-- The numbers above a and below b.
 abbrev pub between : ℕ → ℕ → List ℕ
 between a b = range_with_len (a + 1) (b - a - 1)
 
--- what lies on the layers: each piece, and each stack on each layer strictly inside it
+-- What lies on the layers: each piece, and each stack on each layer strictly inside it.
 abbrev pub metal : List Piece → List StackAt → List Metal
-metal pieces stacks = map piece_metal pieces ++ flat_map (λ s. map (stack_metal s) (between s.stack.from s.stack.to)) stacks
+metal pieces stacks = map piece_metal pieces ++ flat_map (λ s. map (stack_metal s) (between s.stack.from s.stack.to))
+    stacks
 
--- rectangles are compared by x1, y1, x2 and y2, in turn
+-- Rectangles are compared by x1, y1, x2 and y2, in turn.
 abbrev pub rect_order : Rect → Rect → Ordering
-rect_order a b = ordering_then (ordering_then (ordering_then (int_cmp a.x1 b.x1) (int_cmp a.y1 b.y1)) (int_cmp a.x2 b.x2)) (int_cmp a.y2 b.y2)
+rect_order a b = ordering_then
+    (ordering_then (ordering_then (int_cmp a.x1 b.x1) (int_cmp a.y1 b.y1)) (int_cmp a.x2 b.x2)) (int_cmp a.y2 b.y2)
 
--- m stands at place i of the list
+-- m stands at place i of the list.
 abbrev pub StandsAt : List Metal → ℕ → Metal → Type 0
 StandsAt all i m = (i < length all) × (slice_index_or all i m ≡ m)
 
--- two of the metal, at different places, lie on one layer, and their closed rectangles share a point: the layer, the two rectangles, the lesser first,
--- and whether they are of one net
+-- Two of the metal, at different places, lie on one layer, and their closed rectangles share a point: the layer, the
+-- two rectangles, the lesser first, and whether they are of one net.
 pub record IsTouch (all : List Metal) (t : Touching) : Type 0 where
   pub i : ℕ
   pub j : ℕ
@@ -52,15 +54,17 @@ pub record IsTouch (all : List Metal) (t : Touching) : Type 0 where
   pub lesser : is_gt (rect_order t.first t.second) ≡ false
   pub same : IsTrue t.same ↔ (one.net ≡ other.net)
 
--- touches are compared by layer, first and second rectangle, and then those of two nets come first
+-- Touches are compared by layer, first and second rectangle, and then those of two nets come first.
 abbrev pub touch_order : Touching → Touching → Ordering
-touch_order t u = ordering_then (ordering_then (ordering_then (nat_cmp t.layer u.layer) (rect_order t.first u.first)) (rect_order t.second u.second)) (bool_cmp t.same u.same)
+touch_order t u = ordering_then
+    (ordering_then (ordering_then (nat_cmp t.layer u.layer) (rect_order t.first u.first))
+    (rect_order t.second u.second)) (bool_cmp t.same u.same)
 
--- the first touch
+-- The first touch.
 pub record IsFirstTouch (all : List Metal) (t : Touching) : Type 0 where
   pub is : IsTouch all t
   pub first : (u : Touching) → IsTouch all u → is_gt (touch_order t u) ≡ false
 
--- the first touch, or that there is none
+-- The first touch, or that there is none.
 abbrev pub Finds : List Metal → Option Touching → Type 0
 Finds all answer = MatchOption answer ((t : Touching) → IsTouch all t → ⊥) (IsFirstTouch all)

@@ -15,8 +15,8 @@ use crate::piece::{Block, Piece};
 use geom_rect::Drawn;
 use std::alloc::{AllocError, Global};
 
-/// The pieces into which the blockages cut the drawn shapes: the maximal runs of covered cells of each line, each once, in the order of net, layer, centre,
-/// start and width.
+/// The pieces into which the blockages cut the drawn shapes: the maximal runs of covered cells of each line, each once,
+/// in the order of net, layer, centre, start and width.
 pub fn pieces(alloc: Global, shapes: &[Drawn], blocks: &[Block]) -> Result<Vec<Piece>, AllocError>
     requires shapes { All DrawnKeeps shapes.now }
     requires one_axis { OneAxis shapes.now }
@@ -89,13 +89,15 @@ fn pieces_of_lines(
     Ok(pieces)
 }
 
-// The place behind the shapes from `from` on that lie on its line.
+// The place after the shapes from `from` on that lie on its line.
 fn line_end(shapes: &[Drawn], from: usize) -> usize
     requires { from < length shapes.now }
     ensures some { from < result }
     ensures within { result ≤ length shapes.now }
-    ensures on_line { (k : ℕ) (d : Drawn) → from ≤ k → k < result → drawn_line (slice_index_or shapes.now k d) ≡ drawn_line (slice_index_or shapes.now from d) }
-    ensures behind { (d : Drawn) → result < length shapes.now → drawn_line (slice_index_or shapes.now result d) ≢ drawn_line (slice_index_or shapes.now from d) }
+    ensures on_line { (k : ℕ) (d : Drawn) → from ≤ k → k < result
+        → drawn_line (slice_index_or shapes.now k d) ≡ drawn_line (slice_index_or shapes.now from d) }
+    ensures behind { (d : Drawn) → result < length shapes.now
+        → drawn_line (slice_index_or shapes.now result d) ≢ drawn_line (slice_index_or shapes.now from d) }
 {
     let line = line_of(&shapes[from]);
     let mut to = from + 1;

@@ -3,7 +3,8 @@ ghost use Rattle.grid_pieces.specs.Line.{drawn_line};
 
 use geom_rect::{Axis, Drawn, Rect, Run};
 
-/// A line along which metal of a net lies on a routing layer, as wide as `width` and with its middle at `centre`. `axis` is that of the layer.
+/// A line along which metal of a net lies on a routing layer, as wide as `width` and with its middle at `centre`.
+/// `axis` is that of the layer.
 #[derive(Clone, Copy, Debug, PartialEq, Eq)]
 pub struct Line {
     pub net: u32,

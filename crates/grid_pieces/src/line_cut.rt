@@ -95,12 +95,12 @@ fn share_cell(runs: &[Run], run: Run) -> bool
     requires separate { AreSeparate runs.now }
     ensures { IsTrue result ↔ ShareCell runs.now run }
 {
-    let place = first_behind(runs, run.from);
+    let place = first_after(runs, run.from);
     place < runs.len() && runs[place].from < run.to
 }
 
-// The place of the first run that ends behind `from`.
-fn first_behind(runs: &[Run], from: i64) -> usize
+// The place of the first run that ends after `from`.
+fn first_after(runs: &[Run], from: i64) -> usize
     requires { AreSeparate runs.now }
     ensures passed { AllWithin (λ (r : Run). r.to ≤ℤ from) runs.now 0 result }
     ensures behind { AllWithin (λ (r : Run). from <ℤ r.to) runs.now result (length runs.now) }

@@ -73,7 +73,8 @@ fn rect_of(axis: Axis, centre: i64, width: i64, from: i64, to: i64) -> Rect
 
 // The crossing of the stack on each layer strictly inside it.
 fn add_stack(all: &mut Vec<Metal>, at: &StackAt) -> Result<(), AllocError>
-    ensures { OnOk result (all.new.items ≡ all.old.items ++ map (stack_metal at.now) (between at.now.stack.from at.now.stack.to)) }
+    ensures { OnOk result
+        (all.new.items ≡ all.old.items ++ map (stack_metal at.now) (between at.now.stack.from at.now.stack.to)) }
 {
     for layer in at.stack.from..at.stack.to {
         if layer != at.stack.from {

@@ -6,7 +6,8 @@ use crate::metal::Metal;
 use std::alloc::Global;
 use std::collections::BTreeMap;
 
-// The open metal of a sweep in x: places in a list of metal, by the lower edges of their rectangles. No two of them share a y.
+// The open metal of a sweep in x: places in a list of metal, by the lower edges of their rectangles. No two of them
+// share a y.
 pub(crate) type Open = BTreeMap<i64, usize>;
 
 // Open metal that shares a y with the metal at `at`, if there is any: its lower edge and its place.
@@ -26,7 +27,8 @@ pub(crate) fn beside(lying: &Open, metal: &[Metal], at: usize) -> Option<(i64, u
 
 // The open metal with the greatest lower edge up to `edge`.
 fn last_up_to(lying: &Open, edge: i64) -> Option<(i64, usize)>
-    ensures { MatchOption result ((other : ℤ) (place : ℕ) → Has lying.now other place → edge <ℤ other) (IsLastUpTo lying.now edge) }
+    ensures { MatchOption result ((other : ℤ) (place : ℕ) → Has lying.now other place
+        → edge <ℤ other) (IsLastUpTo lying.now edge) }
 {
     let (last, place) = lying.range(..=edge).next_back()?;
     Some((*last, *place))

@@ -14,10 +14,12 @@ pub(crate) fn touch(one: &Metal, other: &Metal) -> bool
     one.layer == other.layer && meets(one.rect, other.rect)
 }
 
-// The least place of metal that touches metal at a later place, or the number of all where there is none. The metal is in order.
+// The least place of metal that touches metal at a later place, or the number of all where there is none. The metal is
+// in order.
 //
-// This sweeps in x. Until the first touch is seen, the open metal lies apart in y: what lies beside the next metal is taken out before the next is put in,
-// since it either touches it or ends before it. From then on nothing is put in, and what is taken out and touches can only be a lesser place.
+// This sweeps in x. Until the first touch is seen, the open metal lies apart in y: what lies beside the next metal is
+// taken out before the next is put in, since it either touches it or ends before it. From then on nothing is put in,
+// and what is taken out and touches can only be a lesser place.
 pub(crate) fn first_place(alloc: Global, metal: &[Metal]) -> Result<usize, AllocError>
     requires { IsSwept metal.now }
     ensures { IfOk result (IsFirstPlace metal.now) }
@@ -33,7 +35,8 @@ pub(crate) fn first_place(alloc: Global, metal: &[Metal]) -> Result<usize, Alloc
     Ok(first)
 }
 
-// What lies beside `at` is taken out of the open metal. The answer is the least of `first` and the places taken out that touch `at`.
+// What lies beside `at` is taken out of the open metal. The answer is the least of `first` and the places taken out
+// that touch `at`.
 fn close(lying: &mut Open, metal: &[Metal], at: usize, first: usize) -> usize
     requires swept { IsSwept metal.now }
     requires within { at < length metal.now }
@@ -51,13 +54,15 @@ fn close(lying: &mut Open, metal: &[Metal], at: usize, first: usize) -> usize
     first
 }
 
-// The least place behind `first` of metal that touches it, where there is one.
+// The least place after `first` of metal that touches it, where there is one.
 pub(crate) fn second_place(metal: &[Metal], first: usize) -> usize
     requires { first < length metal.now }
     ensures behind { first < result }
     ensures within { result ≤ length metal.now }
-    ensures none { (j : ℕ) (d : Metal) → first < j → j < result → Touch (slice_index_or metal.now first d) (slice_index_or metal.now j d) → ⊥ }
-    ensures touches { (d : Metal) → result < length metal.now → Touch (slice_index_or metal.now first d) (slice_index_or metal.now result d) }
+    ensures none { (j : ℕ) (d : Metal) → first < j → j < result
+        → Touch (slice_index_or metal.now first d) (slice_index_or metal.now j d) → ⊥ }
+    ensures touches { (d : Metal) → result < length metal.now
+        → Touch (slice_index_or metal.now first d) (slice_index_or metal.now result d) }
 {
     let mut at = first + 1;
     while at < metal.len() && !touch(&metal[first], &metal[at]) {

@@ -432,3 +432,69 @@ fn a_million_pieces_apart(rt: HostRuntime) -> Result<(), Fail> {
     );
     Ok(())
 }
+
+// A million straps over the whole width, of which a last one touches the first at its right end.
+#[test]
+fn a_million_long_pieces(rt: HostRuntime) -> Result<(), Fail> {
+    let mut pieces = Vec::new(rt.alloc());
+    let mut centre = 0_i64;
+    let first = Piece {
+        net: 0,
+        layer: 3,
+        axis: Axis::X,
+        centre,
+        width: 400,
+        from: 0,
+        to: 1_000_000_000,
+        shape: Shape::Stripe,
+    };
+    for _ in 0..1_000_000 {
+        pieces.push(Piece { centre, ..first })?;
+        centre = centre.wrapping_add(1000);
+    }
+    let end = Piece {
+        net: 1,
+        centre: 400,
+        from: 1_000_000_000,
+        to: 1_000_000_001,
+        ..first
+    };
+    pieces.push(end)?;
+    let touching = Touching {
+        layer: 3,
+        first: rect(0, -200, 1_000_000_000, 200),
+        second: rect(1_000_000_000, 200, 1_000_000_001, 600),
+        same: false,
+    };
+    assert_eq!(rt;
+        first_touch(rt.alloc(), &keeping(rt.alloc(), &pieces)?, &[])?,
+        Some(touching)
+    );
+    Ok(())
+}
+
+// A million lines of one layer and a million blockages of this layer, each over the middle of one line, and one over
+// the ends of all.
+#[test]
+fn a_million_lines_and_blockages(rt: HostRuntime) -> Result<(), Fail> {
+    let mut shapes = Vec::new(rt.alloc());
+    let over_all = rect(900, -1000, 1000, 1_000_000_000);
+    let mut blocks = vec![in rt.alloc(); blocked(0, over_all, over_all)]?;
+    let mut centre = 0_i64;
+    for _ in 0..1_000_000 {
+        shapes.push(Drawn {
+            centre,
+            width: 400,
+            to: 1000,
+            ..rail(0, 0)
+        })?;
+        let middle = rect(400, centre, 500, centre.wrapping_add(200));
+        blocks.push(blocked(0, middle, middle))?;
+        centre = centre.wrapping_add(1000);
+    }
+    let kept = pieces_along(rt.alloc(), Axis::X, &shapes, &blocks)?;
+    assert_eq!(rt; kept.len(), 2_000_000);
+    let ends = kept.last().map(|piece| (piece.from, piece.to));
+    assert_eq!(rt; ends, Some((500, 900)));
+    Ok(())
+}

@@ -22,8 +22,8 @@ pub struct Touching {
     pub same: bool,
 }
 
-/// The first touch of two different pieces on one layer, of a piece and a stack on a layer strictly inside the stack, or of two different stacks on a layer
-/// strictly inside both. None where nothing touches.
+/// The first touch of two different pieces on one layer, of a piece and a stack on a layer strictly inside the stack,
+/// or of two different stacks on a layer strictly inside both. None where nothing touches.
 pub fn first_touch(
     alloc: Global,
     pieces: &[Piece],
@@ -59,7 +59,8 @@ fn first_in_order(alloc: Global, metal: &[Metal]) -> Result<Option<Touching>, Al
     Ok(Some(touch_at(metal, first, second)))
 }
 
-// The touch of the metal at two places, of which the first is the least that touches a later one, and the second the least later one that it touches.
+// The touch of the metal at two places, of which the first is the least that touches a later one, and the second the
+// least later one that it touches.
 fn touch_at(metal: &[Metal], first: usize, second: usize) -> Touching
     requires upright { All (λ (m : Metal). IsInOrder m.rect) metal.now }
     requires in_order { AreInOrder metal.now }

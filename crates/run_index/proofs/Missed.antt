@@ -1,13 +1,12 @@
 -- What bounds miss is not found.
-use Rattle.std.proofs.Common.{◌≡◌, ℕ, ◌<◌, ◌≤◌, ◌≤ℤ◌, ◌⊎◌, inl, inr, Bool, true, false, IsTrue, ◌&&◌, ◌==◌, List, [], ◌∷◌, ◌++◌, filter, map, All, ℤ, suc, length, get_or, if◌then◌else◌, refl, ap, sym, ◌∙◌, arith}
+use Rattle.std.proofs.Common.{◌≡◌, ℕ, ◌<◌, ◌≤◌, ◌≤ℤ◌, ◌⊎◌, inl, inr, Bool, true, false, IsTrue, ◌&&◌, ◌==◌, List, [], ◌∷◌, filter, ℤ, suc, length, get_or, if◌then◌else◌, refl, ap, ◌∙◌, arith}
 use Rattle.std.proofs.lemmas.Bool.{ne_eqb}
 use Rattle.std.proofs.Math.Bool.{and-false}
 use Rattle.std.proofs.lemmas.Int.{ints, clamps}
-use Rattle.std.specs.Int.{int_max, int_min}
 use Rattle.geom_rect.specs.declared.run.Run.{Run}
 use Rattle.run_index.specs.declared.bounds.Bounds.{Bounds}
 use Rattle.run_index.specs.declared.entry.Entry.{Entry}
-use Rattle.run_index.specs.Entry.{share_cell, lies_across, along_of}
+use Rattle.run_index.specs.Entry.{share_cell, lies_across}
 use Rattle.run_index.specs.inside.Tree.{IsWithin, AreWithin, Misses}
 
 other_group : (a b : ℕ) → (a < b) ⊎ (b < a) → (a == b) ≡ false

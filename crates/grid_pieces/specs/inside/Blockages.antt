@@ -1,5 +1,5 @@
 -- Blockages that are found by what lies across a line.
-use Rattle.std.specs.Prelude.{◌≡◌, ℕ, ℤ, ◌-ℤ◌, ◌+ℤ◌, ◌↔◌, List, map, Option, Some, None}
+use Rattle.std.specs.Prelude.{ℤ, ◌-ℤ◌, ◌+ℤ◌, ◌↔◌, List, map, Option, Some, None}
 use Rattle.std.specs.List.{filter_map}
 use Rattle.std.specs.List.Sorted.{IsPermutation}
 use Rattle.geom_rect.specs.Drawn.{half}
@@ -29,7 +29,8 @@ window_of line = record { from = line.centre -ℤ half line.width; to = line.cen
 
 -- What stands in the index for a grown blockage of this layer; nothing for one of a cut layer.
 abbrev pub entry_on : Axis → Rect → LayerRef → Option Entry
-entry_on axis grown (Routing layer) = Some (record { group = layer; across = across axis grown; along = along axis grown })
+entry_on axis grown (Routing layer) = Some
+    (record { group = layer; across = across axis grown; along = along axis grown })
 entry_on axis grown (Cut layer) = None
 
 abbrev pub entry_of : Axis → Block → Option Entry
@@ -38,7 +39,8 @@ entry_of axis block = entry_on axis block.grown block.layer
 -- The grown blockage that an entry for lines along x stands for.
 abbrev pub block_of : Entry → Block
 block_of entry =
-    let rect : Rect = record { x1 = entry.along.from; y1 = entry.across.from; x2 = entry.along.to; y2 = entry.across.to } in
+    let rect : Rect = record
+    { x1 = entry.along.from; y1 = entry.across.from; x2 = entry.along.to; y2 = entry.across.to } in
     record { layer = Routing entry.group; plain = rect; grown = rect }
 
 abbrev pub blocks_of : List Entry → List Block

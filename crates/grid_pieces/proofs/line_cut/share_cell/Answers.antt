@@ -18,12 +18,12 @@ pub returns-then-place-runs : goal.returns-then-place-runs
 unfolding nothing
 returns-then-place-runs c =
     let runs = c.args.runs.now in
-    let place = c.first_behind-place.result in
+    let place = c.first_after-place.result in
     let run_from : SFits w64 c.args.run.from = search rules in
     let run_to : SFits w64 c.args.run.to = search rules in
     let from : SFits w64 (get_or runs place nothing).from = search rules in
-    let passed : AllWithin (λ (r : Run). r.to ≤ℤ c.args.run.from) runs 0 place = simp to_z-of_z at c.first_behind-place.ensures.passed in
-    let behind : AllWithin (λ (r : Run). c.args.run.from <ℤ r.to) runs place (length runs) = simp to_z-of_z at c.first_behind-place.ensures.behind in
+    let passed : AllWithin (λ (r : Run). r.to ≤ℤ c.args.run.from) runs 0 place = simp to_z-of_z at c.first_after-place.ensures.passed in
+    let behind : AllWithin (λ (r : Run). c.args.run.from <ℤ r.to) runs place (length runs) = simp to_z-of_z at c.first_after-place.ensures.behind in
     simp to_z-of_z
     (both (IsTrue (lt_z (get_or runs place nothing).from c.args.run.to)) ((get_or runs place nothing).from <ℤ c.args.run.to) (ShareCell runs c.args.run)
     (less_decides _ _ _ _ refl refl)

@@ -1,4 +1,4 @@
-use Rattle.std.proofs.Common.{◌≡◌, ◌^◌, pos, neg_ℤ, ◌<ℤ◌, ◌≤ℤ◌, SFits, w64, arith, rules}
+use Rattle.std.proofs.Common.{◌^◌, pos, neg_ℤ, ◌<ℤ◌, ◌≤ℤ◌, SFits, w64, arith, rules}
 use Rattle.std.proofs.lemmas.Int.{ints}
 use Rattle.grid_pieces.proofs.Tested.{near}
 use Rattle.grid_pieces.proofs.tests.drawn_keeps.Goals as goal

@@ -1,4 +1,3 @@
-use Rattle.std.proofs.Common.{◌≡◌}
 use Rattle.std.proofs.lemmas.List.Elements.{All-push}
 use Rattle.grid_pieces.specs.Limits.{PieceKeeps}
 use Rattle.grid_pieces.proofs.tests.keeping.Goals as goal

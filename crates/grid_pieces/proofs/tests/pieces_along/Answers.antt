@@ -1,4 +1,4 @@
-use Rattle.std.proofs.Common.{◌≡◌, subst, sym}
+use Rattle.std.proofs.Common.{subst, sym}
 use Rattle.grid_pieces.specs.Limits.{OneAxis}
 use Rattle.grid_pieces.proofs.tests.pieces_along.Goals as goal
 

@@ -1,4 +1,4 @@
-use Rattle.std.proofs.Common.{◌≡◌, Bool, true, ◌&&◌, sym, ◌∙◌, ap, eq-eqb}
+use Rattle.std.proofs.Common.{◌&&◌, sym, ◌∙◌, ap, eq-eqb}
 use Rattle.run_index.specs.Entry.{share_cell}
 use Rattle.run_index.proofs.entry.lies_across.Goals as goal
 

@@ -1,4 +1,4 @@
-use Rattle.std.proofs.Common.{◌↔◌, ℤ, IsTrue, sym, arith}
+use Rattle.std.proofs.Common.{sym, arith}
 use Rattle.std.specs.Int.{int_max}
 use Rattle.std.proofs.lemmas.Int.{ints, clamps}
 use Rattle.run_index.proofs.laws.shared_cells.Goals as goal

@@ -1,7 +1,6 @@
 -- What the bounds miss adds nothing.
-use Rattle.std.proofs.Common.{◌≡◌, ◌++◌, List, map, filter, subst, sym, ◌∙◌, ap}
+use Rattle.std.proofs.Common.{◌++◌, List, map, filter, subst, sym, ◌∙◌, ap}
 use Rattle.std.proofs.lemmas.List.{append-nil}
-use Rattle.geom_rect.specs.declared.run.Run.{Run}
 use Rattle.run_index.specs.declared.entry.Entry.{Entry}
 use Rattle.run_index.specs.declared.tree.Tree.{Tree}
 use Rattle.run_index.specs.Entry.{lies_across, along_of}

@@ -5,7 +5,7 @@ use Rattle.std.proofs.lemmas.Int.{ints}
 use Rattle.std.proofs.lemmas.List.Sorted.{IsPartitionPoint-from_clause}
 use Rattle.geom_rect.specs.declared.run.Run.{Run}
 use Rattle.grid_pieces.proofs.OneLine.{partitioned}
-use Rattle.grid_pieces.proofs.line_cut.first_behind.Goals as goal
+use Rattle.grid_pieces.proofs.line_cut.first_after.Goals as goal
 
 point : (c : goal.After-partition_point) → IsPartitionPoint (λ (r : Run). le_z r.to c.args.from ≡ true) (λ (r : Run). le_z r.to c.args.from ≡ false) c.args.runs.now c.partition_point.result
 point c =

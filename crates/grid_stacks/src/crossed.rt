@@ -21,8 +21,8 @@ pub(crate) const MOST_STACKS: usize = 1_000_000;
 
 // Adds the sites of a connect at which nothing obstructs a stack, or so many that they are too many.
 //
-// This sweeps in y. An upright bar is put in when the sweep has come to where it begins, and taken out when it is met and has ended. Of those that lie
-// a flat one meets those alone that lie in a part of it that is free.
+// This sweeps in y. An upright bar is put in when the sweep has come to where it begins, and taken out when it is met
+// and has ended. Of those that lie a flat one meets those alone that lie in a part of it that is free.
 pub(crate) fn cross_all(
     alloc: Global,
     connect: &Connect,
@@ -43,8 +43,11 @@ pub(crate) fn cross_all(
     requires one_layer_too { OnOneLayer uprights.now }
     requires differ { AreDifferent sites.old.items }
     requires others { All (λ (s : Site). s.from ≡ connect.now.from → s.to ≡ connect.now.to → ⊥) sites.old.items }
-    ensures added { OnOk result (AllAdded connect.now inner.now flats.now uprights.now (length flats.now) sites.old.items sites.new.items) }
-    ensures every { OnOk result (AreMany sites.new.items ⊎ ((flat upright : Bar) → Contains flats.now flat → Contains uprights.now upright → Crosses inner.now flat upright
+    ensures added { OnOk result
+        (AllAdded connect.now inner.now flats.now uprights.now (length flats.now) sites.old.items sites.new.items) }
+    ensures every { OnOk result (AreMany sites.new.items
+        ⊎ ((flat upright : Bar) → Contains flats.now flat → Contains uprights.now upright
+        → Crosses inner.now flat upright
         → Contains sites.new.items (bar_site connect.now flat upright))) }
 {
     let mut lying = Lying::new(alloc);
@@ -70,7 +73,8 @@ fn open_up_to(
     requires in_order { AreByStart starts.now }
     requires within { next ≤ length starts.now }
     ensures within { IfOk result (λ n. (next ≤ n) × (n ≤ length starts.now)) }
-    ensures put { IfOk result (λ n. (k : ℕ) (s : Start) → next ≤ k → k < n → At starts.now k s → Lies lying.new s.place) }
+    ensures put { IfOk result (λ n. (k : ℕ) (s : Start) → next ≤ k → k < n → At starts.now k s
+        → Lies lying.new s.place) }
     ensures kept { OnOk result ((p : ℕ) → Lies lying.old p → Lies lying.new p) }
     ensures behind { IfOk result (λ n. (k : ℕ) (s : Start) → n ≤ k → At starts.now k s → low <ℤ s.from) }
 {
@@ -101,7 +105,8 @@ fn cross_flat(
     requires others { NoneIs connect.now flat (Crosses inner.now flat) uprights.now sites.old.items }
     ensures added { OnOk result (FlatAdded connect.now inner.now flat uprights.now sites.old.items sites.new.items) }
     ensures still { OnOk result (StillLie uprights.now flat lying.old lying.new) }
-    ensures every { OnOk result (AreMany sites.new.items ⊎ EachHas connect.now flat (Crosses inner.now flat) uprights.now lying.old sites.new.items) }
+    ensures every { OnOk result (AreMany sites.new.items
+        ⊎ EachHas connect.now flat (Crosses inner.now flat) uprights.now lying.old sites.new.items) }
 {
     let free = free_runs(alloc, flat, inner)?;
     for run in &free {
@@ -126,9 +131,11 @@ fn cross_run(
     requires one_layer { OnOneLayer uprights.now }
     requires differ { AreDifferent sites.old.items }
     requires others { NoneIs connect.now flat (Fits flat run) uprights.now sites.old.items }
-    ensures added { OnOk result (RunAdded connect.now flat run uprights.now (λ _. Unit {0}) sites.old.items sites.new.items) }
+    ensures added { OnOk result
+        (RunAdded connect.now flat run uprights.now (λ _. Unit {0}) sites.old.items sites.new.items) }
     ensures still { OnOk result (StillLie uprights.now flat lying.old lying.new) }
-    ensures every { OnOk result (AreMany sites.new.items ⊎ EachHas connect.now flat (Fits flat run) uprights.now lying.old sites.new.items) }
+    ensures every { OnOk result (AreMany sites.new.items
+        ⊎ EachHas connect.now flat (Fits flat run) uprights.now lying.old sites.new.items) }
 {
     let mut from = first_in(uprights, flat.net, run.from);
     while let Some(place) = next_in(lying, uprights, flat.net, run.to, from) {
@@ -141,7 +148,8 @@ fn cross_run(
     Ok(())
 }
 
-// Adds the site of a flat and an upright bar where it fits into the run. An upright one that ends below the flat one is taken out.
+// Adds the site of a flat and an upright bar where it fits into the run. An upright one that ends below the flat one is
+// taken out.
 fn meet(
     connect: &Connect,
     flat: Bar,
@@ -153,7 +161,8 @@ fn meet(
 ) -> Result<(), AllocError>
     requires wide { flat.low <ℤ flat.high }
     ensures met { OnOk result (IsMet connect.now flat run upright sites.old.items sites.new.items) }
-    ensures lie { OnOk result ((p : ℕ) → ((p ≡ place) × (upright.to <ℤ flat.low) → ⊥) → Lies lying.old p → Lies lying.new p) }
+    ensures lie { OnOk result ((p : ℕ) → ((p ≡ place) × (upright.to <ℤ flat.low) → ⊥) → Lies lying.old p
+        → Lies lying.new p) }
 {
     if upright.to < flat.low {
         take_out(lying, place);
@@ -163,7 +172,8 @@ fn meet(
     Ok(())
 }
 
-// A place before which no upright bar of this net begins at `x` or right of it: the first that is not before it, by a binary search.
+// A place before which no upright bar of this net begins at `x` or right of it: the first that is not before it, by a
+// binary search.
 fn first_in(uprights: &[Bar], net: u32, x: i64) -> usize
     requires { AreByNet uprights.now }
     ensures { (p : ℕ) (bar : Bar) → p < result → At uprights.now p bar → net ≡ bar.net → bar.low <ℤ x }
@@ -194,10 +204,12 @@ fn is_behind(bar: Bar, net: u32, x: i64) -> bool
     net < bar.net || net == bar.net && x <= bar.low
 }
 
-// The next place from `from` on of an upright bar that lies, unless it is of a later net, or of this net and does not begin left of `x`.
+// The next place from `from` on of an upright bar that lies, unless it is of a later net, or of this net and does not
+// begin left of `x`.
 fn next_in(lying: &Lying, uprights: &[Bar], net: u32, x: i64, from: usize) -> Option<usize>
     requires { AreByNet uprights.now }
-    ensures { MatchOption result ((p : ℕ) (bar : Bar) → from ≤ p → At uprights.now p bar → Lies lying.now p → net ≡ bar.net → bar.low <ℤ x → ⊥)
+    ensures { MatchOption result ((p : ℕ) (bar : Bar) → from ≤ p → At uprights.now p bar → Lies lying.now p
+        → net ≡ bar.net → bar.low <ℤ x → ⊥)
         (λ place. IsNextIn uprights.now lying.now from place) }
 {
     let place = next_from(lying, from)?;

@@ -18,8 +18,9 @@ use via_arrays::{StackError, stack};
 
 const MOST_PIECES: usize = 4_000_000;
 
-/// The stacks of the pieces: one at each crossing of two pieces of one net on the layers of a connect that no blockage of a layer strictly between overlaps,
-/// in the order of net, x, y, lowest layer, highest layer and crossing. Of two connects of the same layers the first is used.
+/// The stacks of the pieces: one at each crossing of two pieces of one net on the layers of a connect that no blockage
+/// of a layer strictly between overlaps, in the order of net, x, y, lowest layer, highest layer and crossing. Of two
+/// connects of the same layers the first is used.
 pub fn stacks(
     alloc: Global,
     tech: &Tech,
@@ -36,7 +37,9 @@ pub fn stacks(
     requires even { All IsEven pieces.now }
     requires along { AreAlong tech.now connects.now pieces.now }
     requires apart { AllPairs LieApart pieces.now }
-    ensures { MatchResult result (λ stacks. AreStacks (Stands tech.now pieces.now connects.now blocks.now) tech.now units pieces.now stacks.items)
+    ensures { MatchResult result
+        (λ stacks. AreStacks (Stands tech.now pieces.now connects.now blocks.now) tech.now units pieces.now
+        stacks.items)
         (AreRefused (Stands tech.now pieces.now connects.now blocks.now) tech.now units pieces.now) }
 {
     if pieces.len() > MOST_PIECES {
@@ -98,7 +101,8 @@ fn stacks_at(
     requires tech { TechKeeps tech.now }
     requires units { IsUnits units }
     requires sites { All (SiteKeeps tech.now) sites.now }
-    ensures { MatchResult result (λ stacks. AreStacksAt tech.now units sites.now stacks.items) (IsSiteRefused tech.now units sites.now) }
+    ensures { MatchResult result (λ stacks. AreStacksAt tech.now units sites.now stacks.items)
+        (IsSiteRefused tech.now units sites.now) }
 {
     let mut stacks = Vec::new(alloc);
     for site in sites {

@@ -79,8 +79,10 @@ fn add_sites(
     requires apart { AllPairs LieApart pieces.now }
     requires differ { AreDifferent sites.old.items }
     requires others { All (λ (s : Site). s.from ≡ connect.now.from → s.to ≡ connect.now.to → ⊥) sites.old.items }
-    ensures added { OnOk result (SitesAdded (StandsBy tech.now pieces.now blocks.now connect.now) sites.old.items sites.new.items) }
-    ensures every { OnOk result (AreMany sites.new.items ⊎ ((s : Site) → StandsBy tech.now pieces.now blocks.now connect.now s → Contains sites.new.items s)) }
+    ensures added { OnOk result
+        (SitesAdded (StandsBy tech.now pieces.now blocks.now connect.now) sites.old.items sites.new.items) }
+    ensures every { OnOk result (AreMany sites.new.items
+        ⊎ ((s : Site) → StandsBy tech.now pieces.now blocks.now connect.now s → Contains sites.new.items s)) }
 {
     let flats = flat_bars(alloc, pieces, connect)?;
     let uprights = upright_bars(alloc, pieces, connect)?;

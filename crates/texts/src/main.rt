@@ -7,6 +7,7 @@
 mod bias;
 mod cells;
 mod line;
+mod netlist;
 mod tech;
 
 use outside::{LONGEST_TEXT, StdFiles, StdSink, read_whole, send};
@@ -49,6 +50,9 @@ fn told(alloc: Global, format: &str, text: &[u8]) -> Result<Option<Printed>, All
     }
     if format == "cells" {
         return Ok(Some(cells::told(alloc, text)?));
+    }
+    if format == "netlist" {
+        return Ok(Some(netlist::told(alloc, text)?));
     }
     if format == "lef_tech" {
         return Ok(Some(tech::told(alloc, text)?));

@@ -72,6 +72,7 @@ turned (x ∷ xs) (y ∷ ys) e = by (nat_cmp x y) (nat_cmp y x) (ranked x y (nat
   where
     never : ◌≡◌ {A = Ordering} Greater Less → ⊥
     never k = cc
+
     by : (o p : Ordering) → MatchOrdering o (x < y) (x ≡ y) (y < x) → MatchOrdering p (y < x) (y ≡ x) (x < y) → ordering_then o (slice_cmp nat_cmp xs ys) ≡ Less →
         (slice_cmp nat_cmp xs ys ≡ Less → slice_cmp nat_cmp ys xs ≡ Greater) → ordering_then p (slice_cmp nat_cmp ys xs) ≡ Greater
     by Less Less r s h rest = absurd (omega (arith, r, s))

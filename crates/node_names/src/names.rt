@@ -80,14 +80,20 @@ impl<'a> NodeNames<'a> {
     pub fn contains(&self, name: &'a [u8]) -> bool
         ensures { IsTrue result ↔ Contains self.now (folded name.now) }
     {
-        self.keys.contains(&Key { name, head: head_of(name) })
+        self.keys.contains(&Key {
+            name,
+            head: head_of(name),
+        })
     }
 
     /// The number of a name that the table holds.
     pub fn get(&self, name: &'a [u8]) -> Option<u32>
         ensures { result ≡ position (bytes_eq (folded name.now)) self.now }
     {
-        let number = self.keys.get_index_of(&Key { name, head: head_of(name) })?;
+        let number = self.keys.get_index_of(&Key {
+            name,
+            head: head_of(name),
+        })?;
         Some(number as u32)
     }
 
@@ -101,7 +107,10 @@ impl<'a> NodeNames<'a> {
         ensures want { result ≡ Err NameError.Want → ¬ Contains self.old (folded name.now) }
         ensures distinct { AreDistinct self.new }
     {
-        let key = Key { name, head: head_of(name) };
+        let key = Key {
+            name,
+            head: head_of(name),
+        };
         if self.keys.len() == MOST_NAMES {
             let Some(number) = self.keys.get_index_of(&key) else {
                 return Err(NameError::Full);

@@ -45,6 +45,9 @@ fn numbered_and_ordered(rt: HostRuntime) -> Result<(), Fail> {
     for (name, bytes) in ordered.names.iter().zip(want) {
         assert_eq!(rt; name.bytes(), bytes);
     }
-    assert_eq!(rt; ordered.places.as_slice(), [6, 0, 7, 5, 4, 8, 1, 2, 3].as_slice());
+    assert_eq!(rt;
+        ordered.places.as_slice(),
+        [6, 0, 7, 5, 4, 8, 1, 2, 3].as_slice()
+    );
     Ok(())
 }

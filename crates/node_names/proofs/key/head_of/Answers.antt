@@ -9,10 +9,9 @@ loop-i-preserved c =
     let i : ℕ = c.loop-i.i in
     let head : ℕ = c.loop-i.head in
     let name : List ℕ = folded c.args.name.now in
-    let more : 16 - i ≡ suc (16 - (i + 1)) = omega (arith, c.loop-i-test.true) in
-    (
+    let more : 16 - i ≡ suc (16 - (i + 1)) = omega (arith, c.loop-i-test.true) in (
       ap (λ b. head_from (head * 256 + b) (16 - (i + 1)) (drop (i + 1) name)) c.byte_at.ensures ∙ sym (head_more head (16 - (i + 1)) name i)
-      ∙ ap (λ n. head_from head n (drop i name)) (sym more) ∙ c.loop-i.invariant.0,
+          ∙ ap (λ n. head_from head n (drop i name)) (sym more) ∙ c.loop-i.invariant.0,
       (fits_more head c.byte_at.result i c.loop-i.invariant.1 c.byte_at.type_inv c.loop-i-test.true).0,
     )
 

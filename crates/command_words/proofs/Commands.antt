@@ -1,0 +1,316 @@
+-- The commands that words are.
+use Rattle.std.proofs.Common.{◌≡◌, ◌≢◌, ℕ, zero, suc, ◌+◌, ◌<◌, ◌≤◌, ◌^◌, List, [], ◌∷◌, ◌++◌, length, take, get_or, All, Contains, Bool, true, false, ◌&&◌, ◌==◌, not, codes, Option, Some, None, Result, Ok, Err, refl, sym, ◌∙◌, ap, subst, arith}
+use Rattle.std.specs.List.{list_all}
+use Rattle.std.specs.Str.Parse.{digits_value}
+use Rattle.std.proofs.lemmas.List.Elements.{All-nil, All-cons, All-contains}
+use Rattle.command_words.specs.declared.command.Command.{Command}
+use Rattle.command_words.specs.declared.command.Command.TheVariants.{Build, Solve, Check, Generate}
+use Rattle.command_words.specs.declared.command.WordsError.{WordsError}
+use Rattle.command_words.specs.Setting.{SetsEach, values_of}
+use Rattle.command_words.specs.Words.{build_options, solve_options, check_options, generate_options, AreApart, IsNumber, IsGenerate, IsCommand, IsUsage}
+use Rattle.command_words.specs.inside.Split.{HasNoEquals, texts, IsBuildOf, IsSolveOf, IsGenerateOf}
+use Rattle.command_words.proofs.Spelling.{settings_once, others_are, option_more, first_word, text_at}
+use Rattle.std.specs.Borrow.{Bor}
+use Rattle.std.specs.Prelude.{IsTrue, ◌↔◌, ◌-◌, drop}
+use Rattle.std.specs.Result.{OkIff}
+use Rattle.std.specs.Char.{is_ascii_digit, IsAsciiDigit}
+use Rattle.std.specs.Str.{bytes_eq}
+use Rattle.std.proofs.lemmas.Slice.Eq.{bytes_eq-Decides}
+use Rattle.std.proofs.lemmas.Str.{digit_value_digit}
+use Rattle.std.proofs.lemmas.Str.Parse.{digit_from_value, parse_digits, numerals_by_value, tells_digits}
+use Rattle.std.proofs.lemmas.List.{length-map, length-take, get_or-take, get_or-map, take-map}
+use Rattle.std.proofs.lemmas.List.Quantifiers.{all_pairs_push}
+use Rattle.std.proofs.lemmas.List.Elements.{Contains-get_or}
+use Rattle.std.specs.Str.Parse.{AllDigits, ParsesUnsigned}
+use Rattle.std.specs.Char.{digit_value}
+
+-- ## options have no `=`
+
+abbrev plain_text : List ℕ → Bool
+plain_text text = list_all (λ byte. not (byte == 61)) text
+
+abbrev plain_list : List (List ℕ) → Bool
+plain_list options = list_all plain_text options
+
+two : (a b : Bool) → (a && b) ≡ true → (a ≡ true) × (b ≡ true)
+two true true h = (refl, refl)
+two true false h = (refl, h)
+two false b h = absurd (let t : false ≡ true = h in cc)
+
+plain_byte : (byte : ℕ) → not (byte == 61) ≡ true → byte ≢ 61
+plain_byte byte h = grind (arith, h)
+
+text_plain : (text : List ℕ) → plain_text text ≡ true → HasNoEquals text
+text_plain [] h i k = absurd (omega arith)
+text_plain (x ∷ xs) h zero k = plain_byte x (two (not (x == 61)) (plain_text xs) h).0
+text_plain (x ∷ xs) h (suc i) k = text_plain xs (two (not (x == 61)) (plain_text xs) h).1 i (omega arith)
+
+all_plain : (options : List (List ℕ)) → plain_list options ≡ true → All HasNoEquals options
+all_plain [] h = All-nil HasNoEquals
+all_plain (x ∷ xs) h = let t = two (plain_text x) (plain_list xs) h in All-cons HasNoEquals x xs (text_plain x t.0) (all_plain xs t.1)
+
+pub plain : (options : List (List ℕ)) → plain_list options ≡ true → (option : List ℕ) → Contains options option → HasNoEquals option
+plain options h option known = All-contains HasNoEquals options option (all_plain options h) known
+
+pub each_once : (options words a b : List (List ℕ)) → plain_list options ≡ true → SetsEach options words a → SetsEach options words b → a ≡ b
+each_once options words a b h x y =
+    let same = settings_once options words x.settings y.settings (plain options h) x.are y.are in
+    let t : Some a ≡ Some b = sym x.values_are ∙ ap (λ z. values_of z options) same ∙ y.values_are in
+    cc
+
+-- ## words of no command
+
+tails : (a b : List ℕ) (xs ys : List (List ℕ)) → a ∷ xs ≡ b ∷ ys → (a ≡ b) × (xs ≡ ys)
+tails a b xs ys e = ((let t : a ∷ xs ≡ b ∷ ys = e in cc), (let t : a ∷ xs ≡ b ∷ ys = e in cc))
+
+pub error_is : (a b : WordsError) → ◌≡◌ {A = Result Command WordsError} (Err a) (Err b) → a ≡ b
+error_is a b h = cc
+
+abbrev first_byte : List ℕ → ℕ
+first_byte [] = 0
+first_byte (byte ∷ bytes) = byte
+
+build_solve : codes "build" ≡ codes "solve" → ⊥
+build_solve e = let t : 98 ≡ first_byte (codes "solve") = ap first_byte e in absurd (omega arith)
+
+build_check : codes "build" ≡ codes "check" → ⊥
+build_check e = let t : 98 ≡ first_byte (codes "check") = ap first_byte e in absurd (omega arith)
+
+build_generate : codes "build" ≡ codes "generate" → ⊥
+build_generate e = let t : 98 ≡ first_byte (codes "generate") = ap first_byte e in absurd (omega arith)
+
+solve_check : codes "solve" ≡ codes "check" → ⊥
+solve_check e = let t : 115 ≡ first_byte (codes "check") = ap first_byte e in absurd (omega arith)
+
+solve_generate : codes "solve" ≡ codes "generate" → ⊥
+solve_generate e = let t : 115 ≡ first_byte (codes "generate") = ap first_byte e in absurd (omega arith)
+
+check_generate : codes "check" ≡ codes "generate" → ⊥
+check_generate e = let t : 99 ≡ first_byte (codes "generate") = ap first_byte e in absurd (omega arith)
+
+pub no_check : (words : List (List ℕ)) → ((values : List (List ℕ)) → SetsEach check_options words values → ⊥) → IsUsage (codes "check" ∷ words)
+no_check words none (Check netlist certificate) h = none (netlist ∷ certificate ∷ []) (subst (λ z. SetsEach check_options z (netlist ∷ certificate ∷ [])) (sym (tails _ _ words h.0 h.1).1) h.2)
+no_check words none (Build a b c d e f g i j) h = build_check (sym (tails _ _ words h.0 h.1).0)
+no_check words none (Solve a b c) h = solve_check (sym (tails _ _ words h.0 h.1).0)
+no_check words none (Generate a b c d e f g) h = check_generate (tails _ _ words h.0 h.1).0
+
+pub no_solve : (words : List (List ℕ)) → ((netlist certificate report : List ℕ) → SetsEach solve_options words (netlist ∷ certificate ∷ report ∷ []) → AreApart (certificate ∷ report ∷ []) → ⊥) → IsUsage (codes "solve" ∷ words)
+no_solve words none (Solve netlist certificate report) h =
+    none netlist certificate report (subst (λ z. SetsEach solve_options z (netlist ∷ certificate ∷ report ∷ [])) (sym (tails _ _ words h.0 h.1).1) h.2) h.3
+no_solve words none (Build a b c d e f g i j) h = build_solve (sym (tails _ _ words h.0 h.1).0)
+no_solve words none (Check a b) h = solve_check (tails _ _ words h.0 h.1).0
+no_solve words none (Generate a b c d e f g) h = solve_generate (tails _ _ words h.0 h.1).0
+
+pub no_build : (words : List (List ℕ)) → ((a b c d e f g i j : List ℕ) → SetsEach build_options words (a ∷ b ∷ c ∷ d ∷ e ∷ f ∷ g ∷ i ∷ j ∷ []) → AreApart (f ∷ g ∷ i ∷ j ∷ []) → ⊥) → IsUsage (codes "build" ∷ words)
+no_build words none (Build a b c d e f g i j) h =
+    none a b c d e f g i j (subst (λ z. SetsEach build_options z (a ∷ b ∷ c ∷ d ∷ e ∷ f ∷ g ∷ i ∷ j ∷ [])) (sym (tails _ _ words h.0 h.1).1) h.2) h.3
+no_build words none (Solve a b c) h = build_solve (tails _ _ words h.0 h.1).0
+no_build words none (Check a b) h = build_check (tails _ _ words h.0 h.1).0
+no_build words none (Generate a b c d e f g) h = build_generate (tails _ _ words h.0 h.1).0
+
+pub no_generate : (words : List (List ℕ)) → ((files : List (List ℕ)) (number side : ℕ) → IsGenerate words files number side → ⊥) → IsUsage (codes "generate" ∷ words)
+no_generate words none (Generate n s c d e f g) h = none (c ∷ d ∷ e ∷ f ∷ g ∷ []) n s (subst (λ z. IsGenerate z (c ∷ d ∷ e ∷ f ∷ g ∷ []) n s) (sym (tails _ _ words h.0 h.1).1) h.2)
+no_generate words none (Build a b c d e f g i j) h = build_generate (sym (tails _ _ words h.0 h.1).0)
+no_generate words none (Solve a b c) h = solve_generate (sym (tails _ _ words h.0 h.1).0)
+no_generate words none (Check a b) h = check_generate (sym (tails _ _ words h.0 h.1).0)
+
+-- ## one command
+
+pub one_command : (words : List (List ℕ)) (x y : Command) → IsCommand words x → IsCommand words y → x ≡ y
+one_command words (Build a b c d e f g i j) (Build a' b' c' d' e' f' g' i' j') h k =
+    let same = each_once build_options h.0 _ _ refl h.2 (subst (λ z. SetsEach build_options z (a' ∷ b' ∷ c' ∷ d' ∷ e' ∷ f' ∷ g' ∷ i' ∷ j' ∷ [])) (sym (tails _ _ h.0 k.0 (sym h.1 ∙ k.1)).1) k.2) in
+    let t : a ∷ b ∷ c ∷ d ∷ e ∷ f ∷ g ∷ i ∷ j ∷ [] ≡ a' ∷ b' ∷ c' ∷ d' ∷ e' ∷ f' ∷ g' ∷ i' ∷ j' ∷ [] = same in
+    cc
+one_command words (Solve a b c) (Solve a' b' c') h k =
+    let same = each_once solve_options h.0 _ _ refl h.2 (subst (λ z. SetsEach solve_options z (a' ∷ b' ∷ c' ∷ [])) (sym (tails _ _ h.0 k.0 (sym h.1 ∙ k.1)).1) k.2) in
+    let t : a ∷ b ∷ c ∷ [] ≡ a' ∷ b' ∷ c' ∷ [] = same in
+    cc
+one_command words (Check a b) (Check a' b') h k =
+    let same = each_once check_options h.0 _ _ refl h.2 (subst (λ z. SetsEach check_options z (a' ∷ b' ∷ [])) (sym (tails _ _ h.0 k.0 (sym h.1 ∙ k.1)).1) k.2) in
+    let t : a ∷ b ∷ [] ≡ a' ∷ b' ∷ [] = same in
+    cc
+one_command words (Generate n s c d e f g) (Generate n' s' c' d' e' f' g') h k =
+    let x = h.2 in
+    let y = subst (λ z. IsGenerate z (c' ∷ d' ∷ e' ∷ f' ∷ g' ∷ []) n' s') (sym (tails _ _ h.0 k.0 (sym h.1 ∙ k.1)).1) k.2 in
+    let t : x.number_text ∷ x.side_text ∷ c ∷ d ∷ e ∷ f ∷ g ∷ [] ≡ y.number_text ∷ y.side_text ∷ c' ∷ d' ∷ e' ∷ f' ∷ g' ∷ [] = each_once generate_options h.0 _ _ refl x.each y.each in
+    let first : x.number_text ≡ y.number_text = cc in
+    let second : x.side_text ≡ y.side_text = cc in
+    let number : n ≡ n' = sym x.number_is.1 ∙ ap (λ z. digits_value 10 z) first ∙ y.number_is.1 in
+    let side : s ≡ s' = sym x.side_is.1 ∙ ap (λ z. digits_value 10 z) second ∙ y.side_is.1 in
+    cc
+one_command words (Build a b c d e f g i j) (Solve a' b' c') h k = absurd (build_solve (tails _ _ h.0 k.0 (sym h.1 ∙ k.1)).0)
+one_command words (Build a b c d e f g i j) (Check a' b') h k = absurd (build_check (tails _ _ h.0 k.0 (sym h.1 ∙ k.1)).0)
+one_command words (Build a b c d e f g i j) (Generate a' b' c' d' e' f' g') h k = absurd (build_generate (tails _ _ h.0 k.0 (sym h.1 ∙ k.1)).0)
+one_command words (Solve a b c) (Build a' b' c' d' e' f' g' i' j') h k = absurd (build_solve (sym (tails _ _ h.0 k.0 (sym h.1 ∙ k.1)).0))
+one_command words (Solve a b c) (Check a' b') h k = absurd (solve_check (tails _ _ h.0 k.0 (sym h.1 ∙ k.1)).0)
+one_command words (Solve a b c) (Generate a' b' c' d' e' f' g') h k = absurd (solve_generate (tails _ _ h.0 k.0 (sym h.1 ∙ k.1)).0)
+one_command words (Check a b) (Build a' b' c' d' e' f' g' i' j') h k = absurd (build_check (sym (tails _ _ h.0 k.0 (sym h.1 ∙ k.1)).0))
+one_command words (Check a b) (Solve a' b' c') h k = absurd (solve_check (sym (tails _ _ h.0 k.0 (sym h.1 ∙ k.1)).0))
+one_command words (Check a b) (Generate a' b' c' d' e' f' g') h k = absurd (check_generate (tails _ _ h.0 k.0 (sym h.1 ∙ k.1)).0)
+one_command words (Generate a b c d e f g) (Build a' b' c' d' e' f' g' i' j') h k = absurd (build_generate (sym (tails _ _ h.0 k.0 (sym h.1 ∙ k.1)).0))
+one_command words (Generate a b c d e f g) (Solve a' b' c') h k = absurd (solve_generate (sym (tails _ _ h.0 k.0 (sym h.1 ∙ k.1)).0))
+one_command words (Generate a b c d e f g) (Check a' b') h k = absurd (check_generate (sym (tails _ _ h.0 k.0 (sym h.1 ∙ k.1)).0))
+
+-- ## commands that are made of values
+
+pub made_build : (words values : List (List ℕ)) (command : Command) → IsBuildOf values command → SetsEach build_options words values → AreApart (drop 5 values) → IsCommand (codes "build" ∷ words) command
+made_build words values (Build a b c d e f g i j) made each apart =
+    (words, refl, subst (λ z. SetsEach build_options words z) made each, subst (λ z. AreApart (drop 5 z)) made apart)
+made_build words values (Solve a b c) made each apart = absurd made
+made_build words values (Check a b) made each apart = absurd made
+made_build words values (Generate a b c d e f g) made each apart = absurd made
+
+pub made_solve : (words values : List (List ℕ)) (command : Command) → IsSolveOf values command → SetsEach solve_options words values → AreApart (drop 1 values) → IsCommand (codes "solve" ∷ words) command
+made_solve words values (Solve a b c) made each apart =
+    (words, refl, subst (λ z. SetsEach solve_options words z) made each, subst (λ z. AreApart (drop 1 z)) made apart)
+made_solve words values (Build a b c d e f g i j) made each apart = absurd made
+made_solve words values (Check a b) made each apart = absurd made
+made_solve words values (Generate a b c d e f g) made each apart = absurd made
+
+pub made_generate : (words values : List (List ℕ)) (number side : ℕ) (command : Command) → IsGenerateOf values number side command → SetsEach generate_options words values → AreApart (drop 2 values) →
+    IsNumber (get_or values 0 []) number → IsNumber (get_or values 1 []) side → number < 2 ^ 64 → 24 ≤ side → side ≤ 300 → IsCommand (codes "generate" ∷ words) command
+made_generate words values number side (Generate n s c d e f g) made each apart first second fits least greatest = (
+  words,
+  refl,
+  record {
+    number_text = made.0;
+    side_text = made.1;
+    each = subst (λ z. SetsEach generate_options words z) made.2 each;
+    number_is = subst (λ z. IsNumber (get_or z 0 []) n) made.2 (subst (λ z. IsNumber (get_or values 0 []) z) (sym made.3) first);
+    side_is = subst (λ z. IsNumber (get_or z 1 []) s) made.2 (subst (λ z. IsNumber (get_or values 1 []) z) (sym made.4) second);
+    number_fits = (let e = made.3 in omega arith);
+    least_side = (let e = made.4 in omega arith);
+    greatest_side = (let e = made.4 in omega arith);
+    apart = subst (λ z. AreApart (drop 2 z)) made.2 apart;
+  },
+)
+made_generate words values number side (Build a b c d e f g i j) made each apart first second fits least greatest = absurd made
+made_generate words values number side (Solve a b c) made each apart first second fits least greatest = absurd made
+made_generate words values number side (Check a b) made each apart first second fits least greatest = absurd made
+
+-- ## values that are not apart
+
+pub not_apart : (options words : List (List ℕ)) (items : List (Bor (List ℕ))) (n : ℕ) (values : List (List ℕ)) (is : Bool) → plain_list options ≡ true → SetsEach options words (texts items) →
+    SetsEach options words values → IsTrue is ↔ AreApart (texts (take (length items - n) (drop n items))) → is ≡ false → AreApart (drop n values) → ⊥
+not_apart options words items n values is h a b tells refused apart =
+    let same : texts items ≡ values = each_once options words (texts items) values h a b in
+    let there : AreApart (texts (take (length items - n) (drop n items))) = subst AreApart (sym (others_are items n)) (subst (λ z. AreApart (drop n z)) (sym same) apart) in
+    let t : false ≡ true = sym refused ∙ tells.1 there in
+    absurd (cc)
+
+pub is_apart : (items : List (Bor (List ℕ))) (n : ℕ) (is : Bool) → IsTrue is ↔ AreApart (texts (take (length items - n) (drop n items))) → is ≡ true → AreApart (drop n (texts items))
+is_apart items n is tells told = subst AreApart (others_are items n) (tells.0 told)
+
+-- ## values by their places
+
+abbrev pub no_word : Bor (List ℕ)
+no_word = record { ref_ptr = (0, 0); now = [] }
+
+t0 : (xs : List (Bor (List ℕ))) → length xs ≡ 0 → texts xs ≡ []
+t0 [] h = refl
+t0 (x ∷ xs) h = absurd (omega arith)
+
+t1 : (xs : List (Bor (List ℕ))) (d : Bor (List ℕ)) → length xs ≡ 1 → texts xs ≡ (get_or xs 0 d).now ∷ []
+t1 [] d h = absurd (omega arith)
+t1 (x ∷ xs) d h = ap (λ z. x.now ∷ z) (t0 xs (omega arith))
+
+t2 : (xs : List (Bor (List ℕ))) (d : Bor (List ℕ)) → length xs ≡ 2 → texts xs ≡ (get_or xs 0 d).now ∷ (get_or xs 1 d).now ∷ []
+t2 [] d h = absurd (omega arith)
+t2 (x ∷ xs) d h = ap (λ z. x.now ∷ z) (t1 xs d (omega arith))
+
+pub t3 : (xs : List (Bor (List ℕ))) (d : Bor (List ℕ)) → length xs ≡ 3 → texts xs ≡ (get_or xs 0 d).now ∷ (get_or xs 1 d).now ∷ (get_or xs 2 d).now ∷ []
+t3 [] d h = absurd (omega arith)
+t3 (x ∷ xs) d h = ap (λ z. x.now ∷ z) (t2 xs d (omega arith))
+
+t4 : (xs : List (Bor (List ℕ))) (d : Bor (List ℕ)) → length xs ≡ 4 → texts xs ≡ (get_or xs 0 d).now ∷ (get_or xs 1 d).now ∷ (get_or xs 2 d).now ∷ (get_or xs 3 d).now ∷ []
+t4 [] d h = absurd (omega arith)
+t4 (x ∷ xs) d h = ap (λ z. x.now ∷ z) (t3 xs d (omega arith))
+
+t5 : (xs : List (Bor (List ℕ))) (d : Bor (List ℕ)) → length xs ≡ 5 → texts xs ≡ (get_or xs 0 d).now ∷ (get_or xs 1 d).now ∷ (get_or xs 2 d).now ∷ (get_or xs 3 d).now ∷ (get_or xs 4 d).now ∷ []
+t5 [] d h = absurd (omega arith)
+t5 (x ∷ xs) d h = ap (λ z. x.now ∷ z) (t4 xs d (omega arith))
+
+t6 : (xs : List (Bor (List ℕ))) (d : Bor (List ℕ)) → length xs ≡ 6 →
+    texts xs ≡ (get_or xs 0 d).now ∷ (get_or xs 1 d).now ∷ (get_or xs 2 d).now ∷ (get_or xs 3 d).now ∷ (get_or xs 4 d).now ∷ (get_or xs 5 d).now ∷ []
+t6 [] d h = absurd (omega arith)
+t6 (x ∷ xs) d h = ap (λ z. x.now ∷ z) (t5 xs d (omega arith))
+
+pub t7 : (xs : List (Bor (List ℕ))) (d : Bor (List ℕ)) → length xs ≡ 7 →
+    texts xs ≡ (get_or xs 0 d).now ∷ (get_or xs 1 d).now ∷ (get_or xs 2 d).now ∷ (get_or xs 3 d).now ∷ (get_or xs 4 d).now ∷ (get_or xs 5 d).now ∷ (get_or xs 6 d).now ∷ []
+t7 [] d h = absurd (omega arith)
+t7 (x ∷ xs) d h = ap (λ z. x.now ∷ z) (t6 xs d (omega arith))
+
+t8 : (xs : List (Bor (List ℕ))) (d : Bor (List ℕ)) → length xs ≡ 8 →
+    texts xs ≡ (get_or xs 0 d).now ∷ (get_or xs 1 d).now ∷ (get_or xs 2 d).now ∷ (get_or xs 3 d).now ∷ (get_or xs 4 d).now ∷ (get_or xs 5 d).now ∷ (get_or xs 6 d).now ∷ (get_or xs 7 d).now ∷ []
+t8 [] d h = absurd (omega arith)
+t8 (x ∷ xs) d h = ap (λ z. x.now ∷ z) (t7 xs d (omega arith))
+
+pub t9 : (xs : List (Bor (List ℕ))) (d : Bor (List ℕ)) → length xs ≡ 9 →
+    texts xs ≡ (get_or xs 0 d).now ∷ (get_or xs 1 d).now ∷ (get_or xs 2 d).now ∷ (get_or xs 3 d).now ∷ (get_or xs 4 d).now ∷ (get_or xs 5 d).now ∷ (get_or xs 6 d).now ∷ (get_or xs 7 d).now ∷ (get_or xs 8 d).now ∷ []
+t9 [] d h = absurd (omega arith)
+t9 (x ∷ xs) d h = ap (λ z. x.now ∷ z) (t8 xs d (omega arith))
+
+-- ## apart
+
+pub apart_not : (names : List (Bor (List ℕ))) (at : ℕ) (d : Bor (List ℕ)) → at < length names → Contains (texts (take at names)) (get_or names at d).now → AreApart (texts names) → ⊥
+apart_not names at d h there apart =
+    let x = (get_or names at d).now in
+    let count = length-map names (λ word. word.now) in
+    let front : texts (take at names) ≡ take at (texts names) = sym (take-map (λ word. word.now) at names) in
+    let found : Contains (take at (texts names)) x = subst (λ z. Contains z x) front there in
+    let below : found.0 < at = (let inside = found.1 in omega (arith, length-take at (texts names))) in
+    apart found.0 at x below (omega arith)
+    (sym (get_or-take at (texts names) found.0 x below) ∙ found.2 ∙ sym (get_or-map (λ word. word.now) names at d x h))
+
+pub apart_more : (names : List (Bor (List ℕ))) (at : ℕ) (d : Bor (List ℕ)) → at < length names → AreApart (texts (take at names)) → (Contains (texts (take at names)) (get_or names at d).now → ⊥) →
+    AreApart (texts (take (at + 1) names))
+apart_more names at d h apart none =
+    subst AreApart (sym (option_more names at d h))
+    (all_pairs_push (λ a b. a ≢ b) (texts (take at names)) (get_or names at d).now apart
+    (λ k e inside same. none (subst (λ z. Contains (texts (take at names)) z) same (Contains-get_or (texts (take at names)) k e inside))))
+
+-- ## numbers
+
+pub digits_are : (text : List ℕ) → list_all is_ascii_digit text ≡ true → AllDigits 10 text
+digits_are [] h = tt
+digits_are (c ∷ cs) h =
+    let t = two (is_ascii_digit c) (list_all is_ascii_digit cs) h in
+    let digit : IsAsciiDigit c = grind (arith, t.0) in
+    let value = digit_value_digit c digit in
+    (omega arith, digits_are cs t.1)
+
+digit_is : (c : ℕ) → IsAsciiDigit c → is_ascii_digit c ≡ true
+digit_is c h = grind arith
+
+pub are_digits : (text : List ℕ) → AllDigits 10 text → list_all is_ascii_digit text ≡ true
+are_digits [] h = refl
+are_digits (c ∷ cs) h = ap (λ z. z && list_all is_ascii_digit cs) (digit_is c (digit_from_value c h.0)) ∙ are_digits cs h.1
+
+pub parsed : {E : Type 0} (text : List ℕ) (r : Result ℕ E) → ParsesUnsigned 64 10 text r → AllDigits 10 text → OkIff r ((0 < length text) × (digits_value 10 text < 2 ^ 64)) (digits_value 10 text)
+parsed text r h all = parse_digits (numerals_by_value _ tells_digits) 64 text r h all
+
+-- ## the first word
+
+pub named_first : (words : List (Bor (List ℕ))) (d : Bor (List ℕ)) (name : List ℕ) → 0 < length words → bytes_eq (get_or words 0 d).now name ≡ true →
+    name ∷ texts (take (length words - 1) (drop 1 words)) ≡ texts words
+named_first words d name some e =
+    ap (λ z. name ∷ z) (others_are words 1) ∙ ap (λ z. z ∷ drop 1 (texts words)) (sym ((bytes_eq-Decides (get_or words 0 d).now name).0 e)) ∙ sym (first_word words d some)
+
+-- ## numbers that are none
+
+pub number_missing : (words : List (List ℕ)) (xs : List (Bor (List ℕ))) (d : Bor (List ℕ)) → SetsEach generate_options words (texts xs) → length xs ≡ 7 →
+    ((n : ℕ) → IsNumber (get_or xs 0 d).now n → n < 2 ^ 64 → ⊥) → (files : List (List ℕ)) (number side : ℕ) → IsGenerate words files number side → ⊥
+number_missing words xs d each count none files number side h =
+    let same = each_once generate_options words (texts xs) (h.number_text ∷ h.side_text ∷ files) refl each h.each in
+    let e : (get_or xs 0 d).now ≡ h.number_text = sym (text_at xs 0 d (omega arith)) ∙ ap (λ z. get_or z 0 []) same in
+    none number (subst (λ z. IsNumber z number) (sym e) h.number_is) h.number_fits
+
+pub side_missing : (words : List (List ℕ)) (xs : List (Bor (List ℕ))) (d : Bor (List ℕ)) → SetsEach generate_options words (texts xs) → length xs ≡ 7 →
+    ((n : ℕ) → IsNumber (get_or xs 1 d).now n → 24 ≤ n → n ≤ 300 → ⊥) → (files : List (List ℕ)) (number side : ℕ) → IsGenerate words files number side → ⊥
+side_missing words xs d each count none files number side h =
+    let same = each_once generate_options words (texts xs) (h.number_text ∷ h.side_text ∷ files) refl each h.each in
+    let e : (get_or xs 1 d).now ≡ h.side_text = sym (text_at xs 1 d (omega arith)) ∙ ap (λ z. get_or z 1 []) same in
+    none side (subst (λ z. IsNumber z side) (sym e) h.side_is) h.least_side h.greatest_side
+
+pub number_at : (xs : List (Bor (List ℕ))) (i : ℕ) (d : Bor (List ℕ)) (n : ℕ) → i < length xs → IsNumber (get_or xs i d).now n → IsNumber (get_or (texts xs) i []) n
+number_at xs i d n h is = subst (λ z. IsNumber z n) (sym (text_at xs i d h)) is

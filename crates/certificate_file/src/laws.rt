@@ -1,8 +1,10 @@
-//! The law of the definition, on a function that does nothing.
-ghost use Rattle.std.specs.Prelude.{ℕ, List, Result};
+//! Laws of the definitions, on functions that do nothing.
+ghost use Rattle.std.specs.Prelude.{ℕ, ◌≤◌, ℤ, List, Ok, Result, unsigned_abs};
 ghost use Rattle.reading.specs.declared.error.ReadError.{ReadError as Error};
 ghost use Rattle.reading.specs.Error.{Agree};
+ghost use Rattle.fixed_decimal.specs.Printed.{printed};
 ghost use Rattle.certificate_file.specs.Format.{ReadsCertificate};
+ghost use Rattle.certificate_file.specs.Voltage.{IsVoltage, limit};
 ghost use Rattle.certificate_file.specs.declared.lists.Lists.{Lists as Record};
 ghost use Rattle.certificate_file.specs.declared.error.CertKind.{CertKind as Kind};
 ghost use Rattle.certificate_file.specs.declared.error.CertKind.TheVariants.{Want};
@@ -22,3 +24,8 @@ pub fn texts_have_one_certificate(names: &[Name])
     texts_have_one_answer();
     texts_have_one_result(&CertificateFormat { names });
 }
+
+/// A voltage within the limit is written as a word that stands for it.
+pub fn written_voltages_read_back()
+    ensures { (voltage : ℤ) → unsigned_abs voltage ≤ limit → IsVoltage (printed voltage 0) (Ok voltage) }
+{}

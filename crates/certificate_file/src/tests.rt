@@ -327,5 +327,6 @@ fn a_million_lines(rt: HostRuntime) -> Result<(), Fail> {
 fn one_law(rt: HostRuntime) -> Result<(), Fail> {
     let names = names_of(rt.alloc(), &NODES)?;
     texts_have_one_certificate(&names);
+    written_voltages_read_back();
     Ok(())
 }

@@ -1,4 +1,5 @@
--- What may follow: the first line, a line for each node, the line `end`, empty lines. How many lines there were decides.
+-- What may follow: the first line, a line for each node, the line `end`, empty lines. How many lines there were
+-- decides.
 use Rattle.std.specs.Prelude.{◌≡◌, ℕ, ◌-◌, ◌≤◌, ◌==◌, nat_le, List, [], ◌∷◌, length, slice_get, Some, if◌then◌else◌}
 use Rattle.std.proofs.Common.{refl, arith}
 use Rattle.certificate_file.specs.declared.section.Section.{Section}

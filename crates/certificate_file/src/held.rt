@@ -1,7 +1,7 @@
 //! What has been read of a certificate.
 //!
-//! A number of a whole line has shown no fault, so that it can be read. Where it could not, the answer is want of memory,
-//! which no clause ties to anything; it never comes.
+//! A number of a whole line has shown no fault, so that it can be read. Where it could not, the answer is want of
+//! memory, which no clause ties to anything; it never comes.
 ghost use Rattle.std.specs.Prelude.{◌≡◌, [], ◌∷◌, ◌++◌, ℕ, List, IfOk, OnOk, map};
 ghost use Rattle.certificate_file.specs.inside.Held.{Holds, IsRowTaken};
 ghost use Rattle.reading.specs.Word.{token};

@@ -1,9 +1,9 @@
 //! The certificate of a network: a high and a low voltage for each node, as a text.
 //!
-//! A certificate is the line `pdn certificate 1`, then for each node in the order of the network a line with its name, its
-//! high and its low voltage in yV, and then the line `end`, after which only white space may stand. Words stand between
-//! blanks, tabs and carriage returns; the last line may lack its line feed. `read_certificate` reads it for a list of
-//! names, and `certificate_text` writes it.
+//! A certificate is the line `pdn certificate 1`, then for each node in the order of the network a line with its name,
+//! its high and its low voltage in yV, and then the line `end`, after which only white space may stand. Words stand
+//! between blanks, tabs and carriage returns; the last line may lack its line feed. `read_certificate` reads it for a
+//! list of names, and `certificate_text` writes it.
 #![tactic(auto)]
 
 mod error;

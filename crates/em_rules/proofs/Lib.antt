@@ -1,0 +1,3 @@
+pub mod Ends
+pub mod Tabled
+pub mod Limited

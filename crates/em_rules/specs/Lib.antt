@@ -1,0 +1,4 @@
+pub mod Verdict
+pub mod Density
+pub mod Limit
+pub mod inside

@@ -1,3 +1,4 @@
 pub mod Ends
 pub mod Tabled
 pub mod Limited
+pub mod One

@@ -1,5 +1,5 @@
 -- The numbers of limits fit the arithmetic.
-use Rattle.std.proofs.Common.{◌≡◌, ℕ, zero, suc, ◌+◌, ◌*◌, ◌^◌, ◌<◌, ◌≤◌, ℤ, pos, negsuc, ◌*ℤ◌, ◌≤ℤ◌, List, length, get_or, All, subst, sym, arith}
+use Rattle.std.proofs.Common.{ℕ, zero, suc, ◌*◌, ◌^◌, ◌<◌, ◌≤◌, ℤ, pos, negsuc, ◌*ℤ◌, get_or, subst, sym, arith}
 use Rattle.std.specs.Prelude.{unsigned_abs}
 use Rattle.std.proofs.lemmas.Int.{ints}
 use Rattle.std.proofs.lemmas.Nat.{mul-le}
@@ -7,7 +7,7 @@ use Rattle.lef_tech.specs.declared.layer.Density.{Density}
 use Rattle.lef_tech.specs.declared.layer.Density.TheVariants.{Unlimited, One, Table}
 use Rattle.lef_tech.specs.Limits.{DensityKeeps}
 use Rattle.em_rules.specs.Limit.{IsDensity, IsWidth}
-use Rattle.em_rules.specs.inside.Tables.{Fits, DensityFits}
+use Rattle.em_rules.specs.inside.Tables.{DensityFits}
 use Rattle.em_rules.proofs.Tabled.{table_below}
 
 -- A table whose points and entries keep their limits fits.

@@ -11,7 +11,7 @@ mod tables;
 mod words;
 
 pub use judging::verdict;
-pub use laws::{ends_tell, one_verdict};
+pub use laws::{ends_tell, one_limit, one_verdict};
 pub use limits::{cut_limit, wire_limit};
 pub use words::Verdict;
 

@@ -1,5 +1,4 @@
-use Rattle.std.proofs.Common.{ℕ, ℤ, ◌≡◌, ◌≤ℤ◌, to_z, of_z, Some, Option, rules, subst, sym}
-use mir.Syntax.{w128}
+use Rattle.std.proofs.Common.{ℤ, ◌≡◌, rules, subst, sym}
 use Rattle.em_rules.specs.declared.words.Verdict.{Verdict}
 use Rattle.em_rules.specs.Verdict.{verdict_by_ends, IsVerdict}
 use Rattle.em_rules.proofs.Ends.{ends_tell}

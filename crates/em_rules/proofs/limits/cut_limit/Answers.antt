@@ -1,4 +1,4 @@
-use Rattle.std.proofs.Common.{◌≡◌, ℕ, ◌*◌, ◌^◌, ◌≤◌, to_z, of_z, rules, ap, ◌∙◌, sym, subst, arith}
+use Rattle.std.proofs.Common.{◌≡◌, ℕ, ◌*◌, ◌^◌, to_z, of_z, rules, sym, subst, arith}
 use mir.Syntax.{w64}
 use Rattle.std.specs.Prelude.{unsigned_abs}
 use Rattle.em_rules.proofs.Limited.{IsPart, density_fits, density_below, part_of, area_product, cuts_product, current_product, square_below}

@@ -8,6 +8,7 @@ mod bias;
 mod cells;
 mod line;
 mod netlist;
+mod script;
 mod tech;
 
 use outside::{LONGEST_TEXT, StdFiles, StdSink, read_whole, send};
@@ -53,6 +54,9 @@ fn told(alloc: Global, format: &str, text: &[u8]) -> Result<Option<Printed>, All
     }
     if format == "netlist" {
         return Ok(Some(netlist::told(alloc, text)?));
+    }
+    if format == "script" {
+        return Ok(Some(script::told(alloc, text)?));
     }
     if format == "lef_tech" {
         return Ok(Some(tech::told(alloc, text)?));

@@ -1,0 +1,7 @@
+pub mod Standing
+pub mod Giving
+pub mod Words
+pub mod Places
+pub mod One
+pub mod Law
+pub mod Taken

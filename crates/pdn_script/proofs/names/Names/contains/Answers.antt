@@ -1,0 +1,7 @@
+use Rattle.std.proofs.Common.{◌∙◌, ap}
+use Rattle.pdn_script.specs.Names.{is_among}
+use Rattle.pdn_script.proofs.Standing.{told}
+use Rattle.pdn_script.proofs.names.Names.contains.Goals as goal
+
+pub returns : goal.returns
+returns c = told c.self.inside.table c.args.name.now c.contains.result c.contains.ensures ∙ ap (λ z. is_among z c.args.name.now) c.self.view_is

@@ -1,0 +1,6 @@
+use Rattle.pdn_script.proofs.Taken.{gathered}
+use Rattle.pdn_script.proofs.read.script_of.Goals as goal
+
+pub returns : goal.returns
+returns c = λ units h. gathered units c.args.held c.new.result c.new-2.result c.new-3.result c.new-4.result c.new-5.result
+    c.new.ensures c.new-2.ensures c.new-3.ensures c.new-4.ensures c.new-5.ensures h

@@ -1,0 +1,12 @@
+pub mod Kinds
+pub mod Sort
+pub mod Section
+pub mod Rule
+pub mod Names
+pub mod Given
+pub mod Known
+pub mod Field
+pub mod Fault
+pub mod Record
+pub mod Format
+pub mod inside

@@ -1,5 +1,5 @@
 -- The options that words give.
-use Rattle.std.proofs.Common.{◌≡◌, ℕ, ◌<◌, true, List, [], ◌∷◌, length, map, drop, Option, None, Some, refl, arith, length-drop}
+use Rattle.std.proofs.Common.{◌≡◌, ℕ, ◌<◌, true, List, [], ◌∷◌, length, map, drop, Option, Some, refl, arith, length-drop}
 use Rattle.pdn_script.specs.Given.{is_waiting, value_at_from}
 use Rattle.reading.specs.declared.word.Word.{Word}
 use Rattle.reading.specs.Word.{token}

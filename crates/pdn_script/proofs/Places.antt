@@ -1,9 +1,9 @@
 -- Where the faults stand that the end of a command shows.
-use Rattle.std.proofs.Common.{◌≡◌, ℕ, ◌+◌, ◌<◌, ◌≤◌, Bool, true, false, cond, List, [], ◌∷◌, length, Option, None, Some, refl, sym, ◌∙◌, ap, subst, arith}
+use Rattle.std.proofs.Common.{◌≡◌, ℕ, ◌+◌, ◌<◌, Bool, true, false, cond, List, [], ◌∷◌, length, Option, None, Some, refl, ap, arith}
 use Rattle.pdn_script.specs.declared.error.ScriptKind.{ScriptKind}
 use Rattle.pdn_script.specs.declared.error.ScriptKind.TheVariants as kinds
 use Rattle.pdn_script.specs.declared.known.Known.{Known}
-use Rattle.pdn_script.specs.Fault.{front_of, late_at, domain_late, grid_late, end_late, late_role, late_last_of, late_in}
+use Rattle.pdn_script.specs.Fault.{front_of, late_at, end_late, late_role, late_last_of, late_in}
 use Rattle.pdn_script.specs.Given.{is_waiting, waits_after, value_at_from, value_at, is_of_macro_grids, macro_at_from, macro_at, waiting}
 use Rattle.pdn_script.specs.Sort.{is_end}
 use Rattle.reading.specs.declared.refusal.Found.{Found}

@@ -1,5 +1,5 @@
 -- One more unit is taken.
-use Rattle.std.proofs.Common.{◌≡◌, List, [], ◌∷◌, ◌++◌, Option, None, Some, Result, Ok, Err, OnOk, refl, sym, ◌∙◌, ap, subst}
+use Rattle.std.proofs.Common.{◌≡◌, List, [], ◌∷◌, ◌++◌, Option, None, Some, Result, Ok, Err, IfOk, OnOk, refl, sym, ◌∙◌, ap, subst}
 use Rattle.std.specs.declared.alloc.AllocError.{AllocError}
 use Rattle.pdn_script.specs.declared.error.ScriptKind.{ScriptKind}
 use Rattle.pdn_script.specs.declared.held.Held.{Held}
@@ -68,3 +68,8 @@ gathered units held a b c d e p q r s t h = let lists : Lists = held.lists in (h
     ∙ ap (λ z. the_script (record { domains = lists.domains.items; grids = lists.grids.items; stripes = z; rings = d; connects = e })) r
     ∙ ap (λ z. the_script (record { domains = lists.domains.items; grids = lists.grids.items; stripes = lists.stripes.items; rings = z; connects = e })) s
     ∙ ap (λ z. the_script (record { domains = lists.domains.items; grids = lists.grids.items; stripes = lists.stripes.items; rings = lists.rings.items; connects = z })) t ∙ h.script)
+
+-- A script that is kept is the one that the units say.
+pub kept_says : (units : List (List Token)) (script : Script) (r : Result Script AllocError) → IfOk r (λ k. k ≡ script) → IsScript units script → IfOk r (IsScript units)
+kept_says units script (Ok k) e h = subst (IsScript units) (sym e) h
+kept_says units script (Err x) e h = tt

@@ -1,6 +1,6 @@
 -- The words of a unit: all but the last, and fewer.
-use Rattle.std.proofs.Common.{◌≡◌, ◌↔◌, IsTrue, ℕ, ◌+◌, ◌-◌, ◌<◌, ◌≤◌, ◌⊎◌, inl, inr, Bool, true, false, List, [], ◌∷◌, ◌++◌, length, take, drop, map, Option, None, Some, refl, sym, ◌∙◌, ap, subst, arith, length-append, length-drop}
-use Rattle.std.proofs.lemmas.List.{map-append, take-map, take-append-drop, take_all, length-map}
+use Rattle.std.proofs.Common.{◌≡◌, ℕ, ◌+◌, ◌-◌, ◌<◌, ◌≤◌, inl, inr, List, [], ◌∷◌, ◌++◌, length, take, drop, map, Option, None, Some, refl, sym, ◌∙◌, ap, subst, arith, length-append, length-drop}
+use Rattle.std.proofs.lemmas.List.{map-append, take-map, take-append-drop, length-map}
 use Rattle.std.proofs.Math.Seq.{take-append_seam}
 use Rattle.pdn_script.specs.declared.error.ScriptKind.{ScriptKind}
 use Rattle.pdn_script.specs.declared.known.Known.{Known}

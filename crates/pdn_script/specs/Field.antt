@@ -1,5 +1,5 @@
 -- The fields of records, from the values of options.
-use Rattle.std.specs.Prelude.{◌≡◌, ℕ, Bool, List, Option, None, Some, codes, if◌then◌else◌}
+use Rattle.std.specs.Prelude.{◌≡◌, ℕ, List, Option, None, Some, codes, if◌then◌else◌}
 use Rattle.std.specs.Str.{bytes_eq}
 use Rattle.entry_list.specs.InTurn.{InTurn}
 use Rattle.pdn_script.specs.declared.record.Start.{Start}

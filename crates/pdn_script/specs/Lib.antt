@@ -8,5 +8,6 @@ pub mod Known
 pub mod Field
 pub mod Fault
 pub mod Record
+pub mod Limits
 pub mod Format
 pub mod inside

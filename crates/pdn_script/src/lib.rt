@@ -10,6 +10,7 @@ mod field;
 mod format;
 mod given;
 mod held;
+mod keeping;
 mod known;
 mod late;
 mod laws;

@@ -1,5 +1,6 @@
-ghost use Rattle.std.specs.Prelude.{List};
+ghost use Rattle.std.specs.Prelude.{◌≡◌, List, IfOk};
 ghost use Rattle.pdn_script.specs.Format.{ReadsScript};
+ghost use Rattle.pdn_script.specs.Limits.{ScriptKeeps};
 ghost use Rattle.pdn_script.specs.Record.{IsScript};
 ghost use Rattle.pdn_script.specs.inside.Held.{Holds};
 ghost use Rattle.reading.specs.Word.{Token};
@@ -7,10 +8,11 @@ ghost use Rattle.reading.specs.Word.{Token};
 use crate::error::ScriptError;
 use crate::format::ScriptFormat;
 use crate::held::Held;
+use crate::keeping::keeps;
 use crate::record::Script;
 use entry_list::Entries;
 use reading::{ReadError, read_into};
-use std::alloc::Global;
+use std::alloc::{AllocError, Global};
 use text_lex::Mode;
 
 /// Reads a script.
@@ -23,13 +25,39 @@ use text_lex::Mode;
 /// memory.
 pub fn read_script(alloc: Global, text: &[u8]) -> Result<Script, ScriptError>
     ensures reads { ReadsScript text.now result }
+    ensures keeps { IfOk result ScriptKeeps }
 {
     let Ok(mut held) = Held::new(alloc) else {
         return Err(ReadError::want());
     };
     match read_into(alloc, &ScriptFormat, &mut held, text, Mode::Tcl) {
-        Ok(()) => Ok(script_of(held)),
+        Ok(()) => match script_in(alloc, held) {
+            Ok(script) => Ok(script),
+            Err(_) => Err(ReadError::want()),
+        },
         Err(error) => Err(error),
+    }
+}
+
+/// The script that has been read.
+fn script_in(alloc: Global, held: Held<'_>) -> Result<Script, AllocError>
+    ensures is { (units : List (List Token)) → Holds units held.entry → IfOk result (IsScript units) }
+    ensures keeps { IfOk result ScriptKeeps }
+{
+    let script = script_of(held);
+    kept(alloc, script)
+}
+
+/// The script. Where it does not keep its limits the answer is want of memory, which no clause ties to anything; it never
+/// comes, since a script that shows no fault keeps them.
+fn kept(alloc: Global, script: Script) -> Result<Script, AllocError>
+    ensures is { IfOk result (λ kept. kept ≡ script) }
+    ensures keeps { IfOk result ScriptKeeps }
+{
+    if keeps(alloc, &script)? {
+        Ok(script)
+    } else {
+        Err(AllocError)
     }
 }
 

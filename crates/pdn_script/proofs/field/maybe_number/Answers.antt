@@ -1,4 +1,4 @@
-use Rattle.std.proofs.Common.{◌≡◌, Some, sym, subst}
+use Rattle.std.proofs.Common.{Some, sym, subst}
 use Rattle.pdn_script.specs.Field.{IsMaybeNumber}
 use Rattle.script_options.specs.Number.{IsNumberIn}
 use Rattle.pdn_script.proofs.field.maybe_number.Goals as goal

@@ -1,4 +1,4 @@
-use Rattle.std.proofs.Common.{◌≡◌, ◌≤◌, length, true, false, refl, sym, ◌∙◌, arith}
+use Rattle.std.proofs.Common.{◌≡◌, true, false, refl, sym, ◌∙◌, arith}
 use Rattle.pdn_script.proofs.Words.{none_shown, one_shown}
 use Rattle.pdn_script.proofs.late.none_fewer.Goals as goal
 

@@ -1,0 +1,13 @@
+use Rattle.std.proofs.Common.{All, subst, arith}
+use Rattle.std.proofs.lemmas.List.{take_all}
+use Rattle.std.proofs.lemmas.List.Elements.{All-more}
+use Rattle.pdn_script.specs.Limits.{IsWidth}
+use Rattle.pdn_script.proofs.keeping.are_widths.Goals as goal
+
+pub loop-length-preserved : goal.loop-length-preserved
+loop-length-preserved c =
+    All-more IsWidth c.args.lengths.now c.loop-length.length-index 0 (omega (arith, c.loop-length-test.true)) c.loop-length.invariant
+    (c.is_width.ensures c.if-not-is_width.false)
+
+pub returns : goal.returns
+returns c = λ t. subst (λ z. All IsWidth z) (take_all c.loop-length.length-index c.args.lengths.now (omega (arith, c.loop-length-test.false))) c.loop-length.invariant

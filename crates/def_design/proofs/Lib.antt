@@ -1,0 +1,10 @@
+pub mod Turns
+pub mod Firsts
+pub mod Afters
+pub mod Numbers
+pub mod Law
+pub mod One
+pub mod Taking
+pub mod Limits
+pub mod Standings
+pub mod Finding

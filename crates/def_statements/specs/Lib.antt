@@ -1,0 +1,5 @@
+pub mod Sort
+pub mod Section
+pub mod Unit
+pub mod Standing
+pub mod Pattern

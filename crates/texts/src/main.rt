@@ -6,6 +6,7 @@
 
 mod bias;
 mod cells;
+mod design;
 mod line;
 mod netlist;
 mod script;
@@ -57,6 +58,9 @@ fn told(alloc: Global, format: &str, text: &[u8]) -> Result<Option<Printed>, All
     }
     if format == "script" {
         return Ok(Some(script::told(alloc, text)?));
+    }
+    if format == "def" {
+        return Ok(Some(design::told(alloc, text)?));
     }
     if format == "lef_tech" {
         return Ok(Some(tech::told(alloc, text)?));

@@ -1,5 +1,5 @@
 -- The laws that the format owes, and that lines say one pair of lists.
-use Rattle.std.proofs.Common.{◌≡◌, ℕ, ◌+◌, ◌^◌, Bool, true, ℤ, List, [], ◌∷◌, length, codes, Result, Ok, Err, refl, sym, ◌∙◌, ap, inl, inr}
+use Rattle.std.proofs.Common.{◌≡◌, ℕ, ◌+◌, ◌^◌, Bool, true, ℤ, List, [], ◌∷◌, length, codes, Result, Ok, Err, refl, sym, ◌∙◌, ap, inr}
 use Rattle.fixed_decimal.specs.declared.error.DecimalError.{DecimalError}
 use Rattle.fixed_decimal.specs.Integer.{IsInteger}
 use Rattle.fixed_decimal.specs.Value.{IsAnswer}

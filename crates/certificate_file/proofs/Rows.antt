@@ -1,5 +1,5 @@
 -- Lines, and which of them are those of nodes.
-use Rattle.std.proofs.Common.{◌≡◌, ◌≢◌, ℕ, zero, suc, ◌+◌, ◌-◌, ◌<◌, ◌≤◌, ◌==◌, ◌⊎◌, inl, inr, Bool, true, false, if◌then◌else◌, ℤ, List, [], ◌∷◌, ◌++◌, length, map, take, drop, get_or, Option, Some, None, Result, Ok, Err, refl, sym, ◌∙◌, ap, subst, arith, length-append}
+use Rattle.std.proofs.Common.{◌≡◌, ◌≢◌, ℕ, zero, suc, ◌+◌, ◌-◌, ◌<◌, ◌≤◌, ◌==◌, inl, inr, Bool, true, false, if◌then◌else◌, ℤ, List, [], ◌∷◌, ◌++◌, length, map, take, get_or, Option, Some, None, refl, sym, ◌∙◌, ap, subst, arith, length-append}
 use Rattle.std.specs.Prelude.{nat_le, IfSome, IfNone, is_none}
 use native.Mathlib.Decide.{dec_le}
 use Rattle.std.specs.Str.{bytes_eq}
@@ -13,11 +13,11 @@ use Rattle.outside.specs.declared.place.Place.{Place}
 use Rattle.reading.specs.declared.refusal.Cause.TheVariants.{Lex}
 use Rattle.reading.specs.declared.word.Form.TheVariants.{Bare, End}
 use Rattle.reading.specs.declared.word.Word.{Word}
-use Rattle.reading.specs.Pattern.{Pattern, One, Then, Matches, joined}
+use Rattle.reading.specs.Pattern.{One, Then, Matches, joined}
 use Rattle.reading.specs.Reading.{Follows, IsRead}
 use Rattle.reading.specs.Outcome.{IsReadAs}
 use Rattle.reading.specs.Grammar.{IsTaken}
-use Rattle.reading.specs.Word.{Token, token, last_of, end_at, text_with, seen_text, word_of}
+use Rattle.reading.specs.Word.{Token, last_of, end_at, text_with, seen_text, word_of}
 use Rattle.certificate_file.specs.declared.section.Section.{Section}
 use Rattle.certificate_file.specs.declared.section.Section.TheVariants.{Head, Row, Close, Ended}
 use Rattle.certificate_file.specs.declared.sort.Sort.{Sort}

@@ -1,7 +1,6 @@
 -- Texts of certificates, line by line.
-use Rattle.std.proofs.Common.{◌≡◌, ℕ, zero, suc, ◌+◌, ◌<◌, ℤ, pos, List, [], ◌∷◌, ◌++◌, length, take, get_or, codes, refl, sym, ◌∙◌, ap, arith, append_assoc, add-one}
+use Rattle.std.proofs.Common.{◌≡◌, ℕ, zero, suc, ◌+◌, ◌<◌, ℤ, pos, List, [], ◌∷◌, ◌++◌, length, take, get_or, codes, sym, ◌∙◌, ap, arith, append_assoc, add-one}
 use Rattle.std.proofs.lemmas.List.{append-nil}
-use Rattle.fixed_decimal.specs.Printed.{printed}
 use Rattle.certificate_file.specs.Written.{row_text, rows_text}
 
 pub row_written : (text name high low after_name after_high after_low new : List ℕ) → after_name ≡ text ++ name → after_high ≡ after_name ++ (codes " " ++ high) → after_low ≡ after_high ++ (codes " " ++ low) →

@@ -1,5 +1,5 @@
 -- Voltages of few digits, and voltages that are printed.
-use Rattle.std.proofs.Common.{◌≡◌, not, cond, ℕ, zero, suc, ◌+◌, ◌-◌, ◌*◌, ◌^◌, ◌<◌, ◌≤◌, Bool, true, false, if◌then◌else◌, ℤ, pos, List, [], ◌∷◌, ◌++◌, length, take, drop, get_or, inl, inr, codes, Result, Ok, Err, refl, sym, ◌∙◌, ap, subst, arith, rules, Fits, w8, w64, to_z, of_z}
+use Rattle.std.proofs.Common.{◌≡◌, not, cond, ℕ, zero, suc, ◌+◌, ◌-◌, ◌*◌, ◌^◌, ◌<◌, ◌≤◌, Bool, true, false, if◌then◌else◌, ℤ, pos, List, [], ◌∷◌, ◌++◌, length, take, drop, get_or, codes, Ok, refl, sym, ◌∙◌, ap, subst, arith, rules, Fits, w8, w64, to_z, of_z}
 use Rattle.std.proofs.Math.Nat.{pow-suc}
 use Rattle.std.specs.Prelude.{unsigned_abs, negsuc, int_lt, ◌/◌, decimal}
 use Rattle.std.specs.Int.{w128}
@@ -16,10 +16,7 @@ use Rattle.std.proofs.lemmas.Int.Digits.{digits_more, digits_value_more}
 use Rattle.std.proofs.lemmas.List.{take-append-drop, append-nil, length-take, length-drop, take_all}
 use native.Mathlib.Decide.{dec_le}
 use Rattle.std.proofs.lemmas.Bool.{le-ltb}
-use Rattle.fixed_decimal.specs.declared.error.DecimalError.{DecimalError}
-use Rattle.fixed_decimal.specs.Number.{Number}
-use Rattle.fixed_decimal.specs.Integer.{IsInteger}
-use Rattle.fixed_decimal.specs.Value.{IsAnswer, IsNearest, IsWithin, signed}
+use Rattle.fixed_decimal.specs.Value.{IsNearest, IsWithin, signed}
 use Rattle.fixed_decimal.specs.Printed.{printed}
 use Rattle.certificate_file.specs.Voltage.{limit, IsVoltage}
 

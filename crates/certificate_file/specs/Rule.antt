@@ -1,5 +1,5 @@
 -- The lines of a certificate.
-use Rattle.std.specs.Prelude.{ℕ, ◌-◌, Bool, true, false, List, length, take, drop}
+use Rattle.std.specs.Prelude.{ℕ, Bool, true, false, List, take, drop}
 use Rattle.certificate_file.specs.declared.section.Section.{Section}
 use Rattle.certificate_file.specs.declared.section.Section.TheVariants.{Head, Row, Close, Ended}
 use Rattle.certificate_file.specs.declared.sort.Sort.{Sort}

@@ -1,4 +1,3 @@
-use Rattle.std.proofs.Common.{sym, subst, ◌∙◌}
 use Rattle.certificate_file.proofs.Law.{one_voltage, not_both}
 use Rattle.certificate_file.proofs.fault.voltage_fault.Goals as goal
 

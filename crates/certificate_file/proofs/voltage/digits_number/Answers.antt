@@ -1,4 +1,4 @@
-use Rattle.std.proofs.Common.{rules, arith, ◌<◌, ◌≤◌, ◌^◌, ◌-◌, ◌+◌, ◌*◌, get_or, length, sym, subst}
+use Rattle.std.proofs.Common.{rules, arith, ◌+◌, ◌*◌, get_or, sym, subst}
 use Rattle.std.specs.Char.{IsAsciiDigit}
 use Rattle.certificate_file.proofs.Voltages.{SoFar, so_far_below, one_more, room_for_digit}
 use Rattle.certificate_file.proofs.voltage.digits_number.Goals as goal

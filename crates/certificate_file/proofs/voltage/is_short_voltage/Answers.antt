@@ -1,4 +1,4 @@
-use Rattle.std.proofs.Common.{◌≡◌, ◌<◌, ◌≤◌, ℤ, Ok, rules, length, sym, ap, subst, arith}
+use Rattle.std.proofs.Common.{◌<◌, ◌≤◌, Ok, rules, length, sym, subst, arith}
 use Rattle.std.specs.Str.Parse.{digits_value}
 use Rattle.fixed_decimal.specs.Value.{signed}
 use Rattle.certificate_file.specs.Voltage.{IsVoltage}

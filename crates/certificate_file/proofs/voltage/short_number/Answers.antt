@@ -1,4 +1,4 @@
-use Rattle.std.proofs.Common.{◌≡◌, ◌<◌, ◌-◌, ◌^◌, ◌*◌, ◌+◌, rules, length, sym, ◌∙◌, ap}
+use Rattle.std.proofs.Common.{◌≡◌, ◌<◌, ◌-◌, ◌^◌, ◌*◌, ◌+◌, rules, length, ◌∙◌, ap}
 use Rattle.certificate_file.proofs.Voltages.{slices_all, slices_value}
 use Rattle.certificate_file.proofs.voltage.short_number.Goals as goal
 

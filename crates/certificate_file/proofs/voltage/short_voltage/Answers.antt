@@ -1,8 +1,8 @@
-use Rattle.std.proofs.Common.{◌≡◌, ◌<◌, ◌≤◌, ◌^◌, ℕ, Ok, sym, ◌∙◌, ap, subst, arith, to_z, of_z}
+use Rattle.std.proofs.Common.{Ok, sym, ◌∙◌, ap, subst, arith, to_z, of_z}
 use Rattle.std.specs.Int.{w128}
 use Rattle.std.specs.Str.Parse.{digits_value}
 use Rattle.fixed_decimal.specs.Value.{signed}
-use Rattle.certificate_file.specs.Voltage.{IsVoltage, limit}
+use Rattle.certificate_file.specs.Voltage.{IsVoltage}
 use Rattle.certificate_file.proofs.Voltages.{value_short, numeral_is, kept_128, abs_signed}
 use Rattle.certificate_file.proofs.voltage.short_voltage.Goals as goal
 

@@ -1,8 +1,7 @@
-use Rattle.std.proofs.Common.{◌≡◌, ◌++◌, ◌<◌, ◌≤◌, ◌^◌, arith, [], pos, get_or, codes, refl, sym, ◌∙◌, to_z, of_z}
-use Rattle.std.specs.Prelude.{unsigned_abs}
+use Rattle.std.proofs.Common.{◌≡◌, ◌++◌, [], codes, ◌∙◌, to_z, of_z}
 use Rattle.std.specs.Int.{w128}
 use Rattle.std.proofs.lemmas.List.{get_or_read}
-use Rattle.std.proofs.lemmas.Int.{to_z-of_z, fits_signed_from_abs}
+use Rattle.std.proofs.lemmas.Int.{to_z-of_z}
 use Rattle.certificate_file.specs.Written.{row_text}
 use Rattle.certificate_file.proofs.Texts.{text_more}
 use Rattle.certificate_file.proofs.written.certificate_text.Goals as goal

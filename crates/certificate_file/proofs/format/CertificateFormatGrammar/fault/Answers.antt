@@ -1,5 +1,4 @@
-use Rattle.std.proofs.Common.{List, ℕ, [], ◌∷◌, map, get_or, length, refl, sym, subst, arith}
-use Rattle.std.proofs.lemmas.List.{length-map}
+use Rattle.std.proofs.Common.{[], ◌∷◌, map, get_or, length, refl, sym, subst}
 use Rattle.reading.specs.Fault.{Finds}
 use Rattle.reading.specs.Grammar.{Shows}
 use Rattle.reading.specs.Laws.{show-at}

@@ -1,0 +1,74 @@
+-- The answers of the program: the exit status and the line of each.
+use Rattle.std.specs.Prelude.{ℕ, List, ◌++◌, codes, decimal}
+use Rattle.std.specs.Fmt.{signed_decimal}
+use Rattle.bound_check.specs.declared.fails.Side.{Side}
+use Rattle.bound_check.specs.declared.fails.Side.TheVariants.{HighValue, LowValue, HighFlow, LowFlow, High, Low}
+use Rattle.fixed_decimal.specs.declared.error.DecimalError.TheVariants as number
+use Rattle.fixed_decimal.specs.Printed.{printed}
+use Rattle.grid_net.specs.declared.error.Quantity.{Quantity}
+use Rattle.grid_net.specs.declared.error.Quantity.TheVariants.{Nodes, Resistors, Resistance, Voltage, Loads}
+use Rattle.answers.specs.declared.kind.TextKind.{TextKind}
+use Rattle.answers.specs.declared.kind.TextKind.TheVariants.{Syntax, OutOfProfileCard, FloatingSource, Number, OutOfRange, WrongNode}
+use Rattle.answers.specs.declared.answer.Answer.{Answer}
+use Rattle.answers.specs.declared.answer.Answer.TheVariants.{Usage, Want, ReadFault, TooLong, Refused, Range, PadConflict, Certified, NotCertified}
+
+-- The word for the test of a certificate that fails.
+abbrev pub side_word : Side → List ℕ
+side_word HighValue = codes "HighValue"
+side_word LowValue = codes "LowValue"
+side_word HighFlow = codes "HighFlow"
+side_word LowFlow = codes "LowFlow"
+side_word High = codes "High"
+side_word Low = codes "Low"
+
+-- The word for a quantity of a network.
+abbrev pub quantity_word : Quantity → List ℕ
+quantity_word Nodes = codes "Nodes"
+quantity_word Resistors = codes "Resistors"
+quantity_word Resistance = codes "Resistance"
+quantity_word Voltage = codes "Voltage"
+quantity_word Loads = codes "Loads"
+
+-- The words for what is wrong with a word of a text.
+abbrev pub kind_words : TextKind → List ℕ
+kind_words Syntax = codes "Syntax"
+kind_words OutOfProfileCard = codes "OutOfProfileCard"
+kind_words FloatingSource = codes "FloatingSource"
+kind_words (Number number.NotNumber) = codes "Number NotNumber"
+kind_words (Number number.Vanishes) = codes "Number Vanishes"
+kind_words (Number number.Range) = codes "Number Range"
+kind_words OutOfRange = codes "OutOfRange"
+kind_words WrongNode = codes "WrongNode"
+
+-- The exit status.
+abbrev pub status_of : Answer → ℕ
+status_of Usage = 2
+status_of Want = 10
+status_of (ReadFault file) = 3
+status_of (TooLong file) = 4
+status_of (Refused file place kind) = 4
+status_of (Range quantity at number) = 6
+status_of (PadConflict node first second) = 6
+status_of (Certified nodes) = 0
+status_of (NotCertified node side found) = 9
+
+-- The line on standard output, without its line feed. The voltages of pads are volts with 24 places.
+abbrev pub words_of : Answer → List ℕ
+words_of Usage = codes "pdn: Usage"
+words_of Want = codes "pdn: Want"
+words_of (ReadFault file) = codes "pdn: ReadFault " ++ file
+words_of (TooLong file) = codes "pdn: TooLong " ++ file
+words_of (Refused file place kind) =
+    codes "pdn: " ++ file ++ codes ":" ++ decimal place.line ++ codes ":" ++ decimal place.word ++ codes ": "
+    ++ kind_words kind
+words_of (Range quantity at number) =
+    codes "pdn: Range " ++ quantity_word quantity ++ codes " " ++ decimal at ++ codes " " ++ signed_decimal number
+words_of (PadConflict node first second) =
+    codes "pdn: PadConflict " ++ node ++ codes " " ++ printed first 24 ++ codes " " ++ printed second 24
+words_of (Certified nodes) = codes "certified " ++ decimal nodes ++ codes " nodes"
+words_of (NotCertified node side found) =
+    codes "pdn: NotCertified " ++ node ++ codes " " ++ side_word side ++ codes " " ++ signed_decimal found
+
+-- The line with its line feed.
+abbrev pub line_of : Answer → List ℕ
+line_of answer = words_of answer ++ codes "\n"

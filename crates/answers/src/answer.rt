@@ -1,0 +1,95 @@
+//! The answers, each with its exit status and its line.
+ghost use Rattle.std.specs.Prelude.{◌≡◌, IfOk};
+ghost use Rattle.answers.specs.Answer.{status_of, line_of};
+
+use crate::kind::TextKind;
+use crate::line::{
+    certified_line, conflict_line, file_line, not_certified_line, range_line, refused_line,
+};
+use bound_check::Side;
+use grid_net::Quantity;
+use outside::{Name, Place};
+use std::alloc::{AllocError, Global};
+
+/// What a run comes to.
+#[derive(Drop)]
+pub enum Answer {
+    /// The words are those of no command.
+    Usage,
+    /// Memory ran out.
+    Want,
+    /// The file could not be read.
+    ReadFault(Name),
+    /// The file has more bytes than an input may have.
+    TooLong(Name),
+    /// The text of the file is refused at the word of this place.
+    Refused {
+        file: Name,
+        place: Place,
+        kind: TextKind,
+    },
+    /// A quantity of the network passes its limit. `at` is the place of the entry, from 0, or 0 for a number of the whole
+    /// network.
+    Range {
+        quantity: Quantity,
+        at: u64,
+        number: i128,
+    },
+    /// Two pads of one node or group differ: its name, its first pad and the one that differs. In yoctovolts.
+    PadConflict {
+        node: Name,
+        first: i128,
+        second: i128,
+    },
+    /// The test of the certificate holds, on a network of this many nodes.
+    Certified(u32),
+    /// The first failing test of the certificate: the node's name, the side, and the number found there (yV for a
+    /// value, fA for a flow or a sum).
+    NotCertified(Name, Side, i128),
+}
+
+impl Answer {
+    /// The exit status.
+    pub fn status(&self) -> u8
+        ensures { result ≡ status_of self.now }
+    {
+        match self {
+            Answer::Certified(_) => 0,
+            Answer::Usage => 2,
+            Answer::ReadFault(_) => 3,
+            Answer::TooLong(_) | Answer::Refused { .. } => 4,
+            Answer::Range { .. } | Answer::PadConflict { .. } => 6,
+            Answer::NotCertified(..) => 9,
+            Answer::Want => 10,
+        }
+    }
+
+    /// The line that is printed, with its line feed.
+    pub fn line(&self, alloc: Global) -> Result<Vec<u8>, AllocError>
+        ensures { IfOk result (λ line. line.items ≡ line_of self.now) }
+    {
+        match self {
+            Answer::Usage => Vec::from_slice(alloc, b"pdn: Usage\n"),
+            Answer::Want => Vec::from_slice(alloc, b"pdn: Want\n"),
+            Answer::ReadFault(file) => file_line(alloc, b"pdn: ReadFault ", file.bytes(), b"\n"),
+            Answer::TooLong(file) => file_line(alloc, b"pdn: TooLong ", file.bytes(), b"\n"),
+            Answer::Refused { file, place, kind } => {
+                refused_line(alloc, file.bytes(), *place, *kind)
+            }
+            Answer::Range {
+                quantity,
+                at,
+                number,
+            } => range_line(alloc, *quantity, *at, *number),
+            Answer::PadConflict {
+                node,
+                first,
+                second,
+            } => conflict_line(alloc, node.bytes(), *first, *second),
+            Answer::Certified(nodes) => certified_line(alloc, *nodes),
+            Answer::NotCertified(node, side, found) => {
+                not_certified_line(alloc, node.bytes(), *side, *found)
+            }
+        }
+    }
+}

@@ -1,0 +1,9 @@
+//! The answers of the program, each with its exit status and the one line that is printed.
+#![tactic(auto)]
+
+mod answer;
+mod kind;
+mod line;
+
+pub use answer::Answer;
+pub use kind::TextKind;

@@ -1,0 +1,4 @@
+mod Conflict
+mod Failing
+mod Groups
+mod Judged

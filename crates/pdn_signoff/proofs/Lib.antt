@@ -1,4 +1,3 @@
 mod Causes
 mod Exclude
-mod Judged
 mod Unread

@@ -1,16 +1,11 @@
 -- What `check` answers, and what has to be so where it gives each answer.
-use Rattle.std.specs.Prelude.{◌≡◌, ◌≢◌, ◌≤◌, ◌<◌, ◌⊎◌, ℕ, ℤ, List, Option, Some, IfSome, length, slice_get}
+use Rattle.std.specs.Prelude.{◌≡◌, ◌≢◌, ◌≤◌, ◌<◌, ◌⊎◌, ℕ, List, Option, IfSome, length}
 use Rattle.outside.specs.Counts.{FaultCounts, Rose}
 use Rattle.outside.specs.Files.{Holdings, bytes_in}
 use Rattle.outside.specs.Whole.{longest_text}
-use Rattle.grid_net.specs.Network.{Network}
-use Rattle.grid_net.specs.Certificate.{IsCertificate}
-use Rattle.bound_check.specs.declared.fails.Fails.{Fails}
-use Rattle.bound_check.specs.Failing.{first_failing}
-use Rattle.plain_netlist.specs.Netlist.{IsPlainNetlist}
-use Rattle.plain_certificate.specs.Certificate.{IsPlainCertificate}
-use Rattle.pdn_signoff.specs.declared.answer.Answer.{Answer}
-use Rattle.pdn_signoff.specs.declared.answer.Answer.TheVariants.{Usage, Want, ReadFault, TooLong, NotPlain, Certified, NotCertified}
+use Rattle.answers.specs.declared.answer.Answer.{Answer}
+use Rattle.answers.specs.declared.answer.Answer.TheVariants.{Usage, Want, ReadFault, TooLong, Refused, Range, PadConflict, Certified, NotCertified}
+use Rattle.judging.specs.Judging.{Judges}
 
 -- What is known of files at a moment: what they hold, if that is known, and the counts of the calls that failed.
 pub record FilesThen : Type 0 where
@@ -53,46 +48,6 @@ pub record AreTexts (known : Option Holdings) (netlist certificate netlist_text 
   pub certificate_is : IsTextOf known certificate certificate_text
   pub certificate_fits : length certificate_text ≤ longest_text
 
--- The text is no plain netlist: no network stands in it.
-abbrev pub HasNoNetwork : List ℕ → Type 0
-HasNoNetwork text = (names : List (List ℕ)) (net : Network) → ¬ IsPlainNetlist text names net
-
--- The text is no plain certificate for the nodes of these names: no two lists stand in it.
-abbrev pub HasNoLists : List ℕ → List (List ℕ) → Type 0
-HasNoLists text names = (high low : List ℤ) → ¬ IsPlainCertificate text names high low
-
--- The two texts stand for this network, with its nodes' names, and for these two lists of voltages.
-pub record StandFor (netlist_text certificate_text : List ℕ) (names : List (List ℕ)) (net : Network)
-    (high low : List ℤ) : Type 0 where
-  pub network : IsPlainNetlist netlist_text names net
-  pub lists : IsPlainCertificate certificate_text names high low
-
--- Why the texts of the two files are judged as they are.
-abbrev pub Judges : (netlist certificate netlist_text certificate_text : List ℕ) → Answer → Type 0
--- The netlist is judged first.
-Judges netlist certificate netlist_text certificate_text (NotPlain file) =
-    ((file ≡ netlist) × HasNoNetwork netlist_text)
-    ⊎ ((file ≡ certificate)
-    × ((names : List (List ℕ)) × (net : Network)
-    × IsPlainNetlist netlist_text names net × HasNoLists certificate_text names))
--- The test of the certificate holds of the lists on the network.
-Judges netlist certificate netlist_text certificate_text (Certified nodes) =
-    (names : List (List ℕ)) × (net : Network) × (high : List ℤ) × (low : List ℤ)
-    × StandFor netlist_text certificate_text names net high low
-    × IsCertificate net high low × (nodes ≡ net.nodes)
--- The first test that fails is named, by its node, its side and the number found.
-Judges netlist certificate netlist_text certificate_text (NotCertified node side found) =
-    (names : List (List ℕ)) × (net : Network) × (high : List ℤ) × (low : List ℤ)
-    × StandFor netlist_text certificate_text names net high low
-    × ((fails : Fails) × (first_failing net high low ≡ Some fails)
-    × (slice_get names fails.node ≡ Some node) × (side ≡ fails.side) × (found ≡ fails.found))
--- Memory may be short at any time.
-Judges netlist certificate netlist_text certificate_text Want = Unit {0}
--- Nothing else is said of two texts.
-Judges netlist certificate netlist_text certificate_text Usage = ⊥
-Judges netlist certificate netlist_text certificate_text (ReadFault file) = ⊥
-Judges netlist certificate netlist_text certificate_text (TooLong file) = ⊥
-
 -- The two files were read without a fault, and their texts are judged so.
 abbrev pub JudgesFiles : FilesThen → FilesThen → (netlist certificate : List ℕ) → Answer → Type 0
 JudgesFiles before after netlist certificate answer =
@@ -111,8 +66,12 @@ Answers before after netlist certificate (TooLong file) =
     NoneFailed before after
     × (((file ≡ netlist) × IsTooLong before.known netlist)
     ⊎ ((file ≡ certificate) × Fits before.known netlist × IsTooLong before.known certificate))
-Answers before after netlist certificate (NotPlain file) =
-    JudgesFiles before after netlist certificate (NotPlain file)
+Answers before after netlist certificate (Refused file place kind) =
+    JudgesFiles before after netlist certificate (Refused file place kind)
+Answers before after netlist certificate (Range quantity at number) =
+    JudgesFiles before after netlist certificate (Range quantity at number)
+Answers before after netlist certificate (PadConflict node first second) =
+    JudgesFiles before after netlist certificate (PadConflict node first second)
 Answers before after netlist certificate (Certified nodes) =
     JudgesFiles before after netlist certificate (Certified nodes)
 Answers before after netlist certificate (NotCertified node side found) =

@@ -1,17 +1,19 @@
 -- What a run of the program comes to, and how it ends.
-use Rattle.std.specs.Prelude.{◌≡◌, ◌≢◌, ◌≤◌, ◌<◌, ◌⊎◌, ◌*ℤ◌, ◌≤ℤ◌, pos, ℕ, ℤ, List, Option, length}
+use Rattle.std.specs.Prelude.{◌≡◌, ◌≢◌, ◌≤◌, ◌⊎◌, ℕ, List, Option, length}
 use Rattle.outside.specs.Counts.{FaultCounts, Rose, last_count}
 use Rattle.outside.specs.Files.{Holdings, bytes_in}
 use Rattle.outside.specs.Known.{WhereKnown}
 use Rattle.outside.specs.Sink.{Adds, AddsSome}
 use Rattle.outside.specs.Whole.{longest_text}
-use Rattle.grid_net.specs.Network.{Network, entry_of}
-use Rattle.grid_net.specs.Solution.{IsSolution}
+use Rattle.answers.specs.declared.answer.Answer.{Answer}
+use Rattle.answers.specs.declared.answer.Answer.TheVariants.{Usage, Want}
+use Rattle.answers.specs.Answer.{line_of, status_of}
+use Rattle.certificate_file.specs.declared.lists.Lists.{Lists}
 use Rattle.grid_net.specs.Certificate.{IsCertificate}
-use Rattle.pdn_signoff.specs.declared.answer.Answer.{Answer}
-use Rattle.pdn_signoff.specs.declared.answer.Answer.TheVariants.{Usage, Want}
-use Rattle.pdn_signoff.specs.Answer.{line_of, status_of}
-use Rattle.pdn_signoff.specs.Check.{FilesThen, NoneFailed, StandFor, Answers}
+use Rattle.judging.specs.Texts.{StandFor}
+use Rattle.short_merge.specs.declared.merged.Merged.{Merged}
+use Rattle.spice_grid.specs.declared.named.Named.{Named}
+use Rattle.pdn_signoff.specs.Check.{FilesThen, NoneFailed, Answers}
 use Rattle.pdn_signoff.specs.Words.{IsCheck, IsUsage}
 
 -- What is known of a sink at a moment: the bytes written, if they are known, and the count of the calls that failed.
@@ -45,25 +47,18 @@ abbrev pub Ends : ℕ → SinkThen → SinkThen → Answer → Type 0
 Ends result before after answer = PrintEnds result (status_of answer) (line_of answer) before after
 
 -- The words are those of `check` over these two files, each of at most as many bytes as an input may have, and the
--- texts that are held stand for this network and these lists.
-pub record IsPlainCheck (words : List (List ℕ)) (held : Holdings) (names : List (List ℕ)) (net : Network)
-    (high low : List ℤ) : Type 0 where
+-- texts that are held stand for this netlist, the network of its groups and these lists.
+pub record IsCheckOf (words : List (List ℕ)) (held : Holdings) (named : Named) (merged : Merged) (lists : Lists)
+    : Type 0 where
   pub netlist : List ℕ
   pub certificate : List ℕ
   pub words_are : IsCheck words netlist certificate
   pub netlist_fits : length (bytes_in held netlist) ≤ longest_text
   pub certificate_fits : length (bytes_in held certificate) ≤ longest_text
-  pub texts : StandFor (bytes_in held netlist) (bytes_in held certificate) names net high low
+  pub texts : StandFor (bytes_in held netlist) (bytes_in held certificate) named merged lists
 
--- Two plain texts are there, and the certificate holds on the netlist.
+-- The two texts are there, and the certificate holds on the merged network of the netlist.
 abbrev pub HasCertificate : List (List ℕ) → Holdings → Type 0
 HasCertificate words held =
-    (names : List (List ℕ)) × (net : Network) × (high : List ℤ) × (low : List ℤ)
-    × IsPlainCheck words held names net high low × IsCertificate net high low
-
--- Every solution of Ohm's and Kirchhoff's laws on the network lies between the two lists, at each node and over every
--- common denominator q.
-abbrev pub SolutionsLieBetween : Network → List ℤ → List ℤ → Type 0
-SolutionsLieBetween net high low =
-    (q : ℕ) (p c drawn : ℕ → ℤ) → IsSolution net q p c drawn → (node : ℕ) → node < net.nodes
-    → ((pos q *ℤ entry_of low node) ≤ℤ p node) × (p node ≤ℤ (pos q *ℤ entry_of high node))
+    (named : Named) × (merged : Merged) × (lists : Lists)
+    × IsCheckOf words held named merged lists × IsCertificate merged.net lists.high lists.low

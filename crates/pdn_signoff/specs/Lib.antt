@@ -1,4 +1,3 @@
-pub mod Answer
 pub mod Check
 pub mod Command
 pub mod Words

@@ -165,22 +165,136 @@ fn pad_below_its_voltage(rt: HostRuntime) -> Result<(), Fail> {
 
 #[test]
 fn empty_network(rt: HostRuntime) -> Result<(), Fail> {
+    let none = b"pdn certificate 1\nend\n";
+    judged(&rt, b".end\n", none, 0, b"certified 0 nodes\n")?;
+    judged(&rt, b"", none, 4, b"pdn: net:1:1: Syntax\n")?;
+    judged(&rt, b".end\n", b"", 4, b"pdn: cert:1:1: Syntax\n")?;
+    judged(&rt, b"", b"", 4, b"pdn: net:1:1: Syntax\n")?;
+    Ok(())
+}
+
+/// Two pads of one node may agree. Where they differ, their node is named with both voltages.
+#[test]
+fn two_voltages_at_one_pad(rt: HostRuntime) -> Result<(), Fail> {
     judged(
         &rt,
-        b".end\n",
-        b"pdn certificate 1\nend\n",
+        b"R1 p n 1\nV1 p 0 1\nV2 p 0 1.0\nI1 n 0 1m\n.end\n",
+        CERTIFICATE,
         0,
-        b"certified 0 nodes\n",
+        b"certified 2 nodes\n",
     )?;
     judged(
         &rt,
-        b"",
-        b"pdn certificate 1\nend\n",
-        4,
-        b"pdn: net: NotPlain\n",
+        b"R1 p n 1\nV1 p 0 1\nV2 p 0 1.1\nI1 n 0 1m\n.end\n",
+        CERTIFICATE,
+        6,
+        b"pdn: PadConflict p 1.000000000000000000000000 1.100000000000000000000000\n",
     )?;
-    judged(&rt, b".end\n", b"", 4, b"pdn: cert: NotPlain\n")?;
-    judged(&rt, b"", b"", 4, b"pdn: net: NotPlain\n")?;
+    Ok(())
+}
+
+/// The least and the greatest resistance, and what lies beyond them.
+#[test]
+fn resistor_at_its_limits(rt: HostRuntime) -> Result<(), Fail> {
+    judged(
+        &rt,
+        b"R1 p n 0.0000000001\nV1 p 0 1\nI1 n 0 1m\n.end\n",
+        CERTIFICATE,
+        4,
+        b"pdn: net:1:4: Number Vanishes\n",
+    )?;
+    judged(
+        &rt,
+        b"R1 p n 1001\nV1 p 0 1\nI1 n 0 1m\n.end\n",
+        CERTIFICATE,
+        6,
+        b"pdn: Range Resistance 0 1001000000000\n",
+    )?;
+    let certificate =
+        b"pdn certificate 1\nn 1000000000000 -1000000000000\np 1000000000000000000000000 1000000000000000000000000\nend\n";
+    judged(
+        &rt,
+        b"R1 p n 1000\nV1 p 0 1\nI1 n 0 1m\n.end\n",
+        certificate,
+        0,
+        b"certified 2 nodes\n",
+    )?;
+    Ok(())
+}
+
+/// The refusals of a certificate's text, each with its word.
+#[test]
+fn certificate_refusals(rt: HostRuntime) -> Result<(), Fail> {
+    let table = [
+        (
+            b"pdn certificate 2\nn 1 1\np 1 1\nend\n".as_slice(),
+            b"pdn: cert:1:3: Syntax\n".as_slice(),
+        ),
+        (
+            b"pdn certificate 1\np 1 1\nn 1 1\nend\n",
+            b"pdn: cert:2:1: WrongNode\n",
+        ),
+        (
+            b"pdn certificate 1\nn 1 1\nend\n",
+            b"pdn: cert:3:1: WrongNode\n",
+        ),
+        (
+            b"pdn certificate 1\nn 1.0 1\np 1 1\nend\n",
+            b"pdn: cert:2:2: Number NotNumber\n",
+        ),
+        (
+            b"pdn certificate 1\nn 1 10000000000000000000000000000000000001\np 1 1\nend\n",
+            b"pdn: cert:2:3: Number Range\n",
+        ),
+        (
+            b"pdn certificate 1\nn 1 1\np 1 1\nq 1 1\nend\n",
+            b"pdn: cert:4:1: Syntax\n",
+        ),
+    ];
+    for (certificate, line) in table {
+        judged(&rt, NETLIST, certificate, 4, line)?;
+    }
+    Ok(())
+}
+
+/// The range of a load: the high list is tested with its low end, and the low list with its high end.
+#[test]
+fn range_of_a_load(rt: HostRuntime) -> Result<(), Fail> {
+    let netlist = b"R1 p n 1\nV1 p 0 1\nI1 n 0 1m\n*range 0 1m\n.end\n";
+    judged(
+        &rt,
+        netlist,
+        b"pdn certificate 1\nn 1000000000000001000000000 998999999999999000000000\np 1000000000000000000000000 1000000000000000000000000\nend\n",
+        0,
+        b"certified 2 nodes\n",
+    )?;
+    judged(
+        &rt,
+        netlist,
+        b"pdn certificate 1\nn 1000000000000000000000000 998999999999999000000000\np 1000000000000000000000000 1000000000000000000000000\nend\n",
+        9,
+        b"pdn: NotCertified n High 0\n",
+    )?;
+    Ok(())
+}
+
+/// A netlist as users write it: a title, comments, `DC`, a short, a line that goes on. The certificate has the groups.
+#[test]
+fn shorts_are_one_node(rt: HostRuntime) -> Result<(), Fail> {
+    judged(
+        &rt,
+        b"One resistor behind a short\n* the pad\nV1 p 0 DC 1\nRshort P q 0\n\nR1 q\n+ n 1\nI1 n 0 DC 1m\n.op\n.end\n",
+        CERTIFICATE,
+        0,
+        b"certified 2 nodes\n",
+    )?;
+    judged(
+        &rt,
+        b"Two pads behind one short\nV1 b 0 1\nV2 c 0 1.1\nR1 b c 0\n.end\n",
+        CERTIFICATE,
+        6,
+        b"pdn: PadConflict b 1.000000000000000000000000 1.100000000000000000000000\n",
+    )?;
     Ok(())
 }
 
@@ -268,19 +382,19 @@ fn earlier_causes_come_first(rt: HostRuntime) -> Result<(), Fail> {
             3,
             b"pdn: ReadFault net\n",
         ),
-        // The certificate cannot be read, and the netlist's text is not plain.
+        // The certificate cannot be read, and the netlist's text is refused.
         (
             "check|--netlist|cert|--certificate|net",
             "net",
             3,
             b"pdn: ReadFault net\n",
         ),
-        // Neither text is plain.
+        // Both texts are refused.
         (
             "check|--netlist|cert|--certificate|net",
             "",
             4,
-            b"pdn: cert: NotPlain\n",
+            b"pdn: cert:2:1: OutOfProfileCard\n",
         ),
     ];
     for (words, failing, status, line) in table {
@@ -293,6 +407,52 @@ fn earlier_causes_come_first(rt: HostRuntime) -> Result<(), Fail> {
             status,
             line,
         )?;
+    }
+    Ok(())
+}
+
+/// Of two causes in the texts the one is answered that comes first in the order of the work.
+#[test]
+fn earlier_texts_come_first(rt: HostRuntime) -> Result<(), Fail> {
+    let table = [
+        // A word of the netlist is refused, and a quantity passes its limit.
+        (
+            b"R1 p n 1001\nV1 p 0 1\nI1 n 0 1x\n.end\n".as_slice(),
+            CERTIFICATE,
+            4,
+            b"pdn: net:3:4: Number NotNumber\n".as_slice(),
+        ),
+        // A quantity passes its limit, and two pads of one node differ.
+        (
+            b"R1 p n 1001\nV1 p 0 1\nV2 p 0 2\nI1 n 0 1m\n.end\n",
+            CERTIFICATE,
+            6,
+            b"pdn: Range Resistance 0 1001000000000\n",
+        ),
+        // Two pads of one node differ, and two of one group.
+        (
+            b"V1 a 0 1\nV2 b 0 2\nR1 a b 0\nV3 p 0 1\nV4 p 0 2\n.end\n",
+            CERTIFICATE,
+            6,
+            b"pdn: PadConflict p 1.000000000000000000000000 2.000000000000000000000000\n",
+        ),
+        // Two pads of one group differ, and the certificate is refused.
+        (
+            b"V1 a 0 1\nV2 b 0 2\nR1 a b 0\n.end\n",
+            b"",
+            6,
+            b"pdn: PadConflict a 1.000000000000000000000000 2.000000000000000000000000\n",
+        ),
+        // The certificate is refused, and its test fails.
+        (
+            NETLIST,
+            b"pdn certificate 1\nn 0 0\np 0 0x\nend\n",
+            4,
+            b"pdn: cert:3:3: Number NotNumber\n",
+        ),
+    ];
+    for (netlist, certificate, status, line) in table {
+        judged(&rt, netlist, certificate, status, line)?;
     }
     Ok(())
 }
@@ -347,7 +507,7 @@ fn names_and_nodes(rt: HostRuntime) -> Result<(), Fail> {
         NETLIST,
         b"pdn certificate 1\np 1 1\nn 1 1\nend\n",
         4,
-        b"pdn: cert: NotPlain\n",
+        b"pdn: cert:2:1: WrongNode\n",
     )?;
     Ok(())
 }

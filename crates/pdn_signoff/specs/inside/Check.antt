@@ -2,8 +2,8 @@
 use Rattle.std.specs.Prelude.{ℕ, List}
 use Rattle.outside.specs.declared.whole.ReadError.{ReadError}
 use Rattle.outside.specs.declared.whole.ReadError.TheVariants as reading
-use Rattle.pdn_signoff.specs.declared.answer.Answer.{Answer}
-use Rattle.pdn_signoff.specs.declared.answer.Answer.TheVariants.{Want, ReadFault, TooLong}
+use Rattle.answers.specs.declared.answer.Answer.{Answer}
+use Rattle.answers.specs.declared.answer.Answer.TheVariants.{Want, ReadFault, TooLong}
 
 -- The answer to this error at this file.
 abbrev pub unread_answer : ReadError → List ℕ → Answer

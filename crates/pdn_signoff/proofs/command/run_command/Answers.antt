@@ -1,5 +1,5 @@
 use Rattle.std.proofs.Common.{inl, inr, refl}
-use Rattle.pdn_signoff.specs.declared.answer.Answer.TheVariants.{Want}
+use Rattle.answers.specs.declared.answer.Answer.TheVariants.{Want}
 use Rattle.pdn_signoff.proofs.command.run_command.Goals as goal
 
 pub returns-clause-answer : goal.returns-clause-answer

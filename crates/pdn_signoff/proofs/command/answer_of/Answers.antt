@@ -1,0 +1,7 @@
+use Rattle.std.proofs.Common.{Err, inl, inr, refl, ap}
+use Rattle.command_words.specs.declared.command.Command.TheVariants.{Check}
+use Rattle.pdn_signoff.proofs.command.answer_of.Goals as goal
+
+pub returns-in-Err-Usage-clause-cause : goal.returns-in-Err-Usage-clause-cause
+returns-in-Err-Usage-clause-cause g c =
+    inl (inr (refl, (λ n m check. c.in-Err-Usage.ensures.usage (ap Err c.in-Err-Usage.field-0-is) (Check n m) check), refl))

@@ -1,5 +1,0 @@
-pub mod Digits
-pub mod Signs
-pub mod Rows
-pub mod Bodies
-pub mod Reading

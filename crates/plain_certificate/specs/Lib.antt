@@ -1,3 +1,0 @@
-pub mod Certificate
-pub mod Number
-pub mod inside

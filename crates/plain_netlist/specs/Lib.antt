@@ -1,3 +1,0 @@
-pub mod Card
-pub mod Netlist
-pub mod inside

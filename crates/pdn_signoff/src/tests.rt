@@ -299,12 +299,33 @@ fn shorts_are_one_node(rt: HostRuntime) -> Result<(), Fail> {
 }
 
 #[test]
+fn words_in_any_order(rt: HostRuntime) -> Result<(), Fail> {
+    for words in [
+        "check|--certificate|cert|--netlist|net",
+        "check|--netlist=net|--certificate|cert",
+    ] {
+        ends(
+            &rt,
+            words,
+            files(rt.alloc(), NETLIST, CERTIFICATE)?,
+            ("", 0),
+            0,
+            0,
+            b"certified 2 nodes\n",
+        )?;
+    }
+    Ok(())
+}
+
+#[test]
 fn usage(rt: HostRuntime) -> Result<(), Fail> {
     let table = [
         "check",
         "",
         "solve|--netlist|net|--certificate|cert",
-        "check|--certificate|cert|--netlist|net",
+        "solve|--netlist|net|--certificate|out|--report|report",
+        "check|--netlist|net|--netlist|net",
+        "check|--netlist|net",
         "check|--netlist||--certificate|cert",
         "check|--netlist|net|--certificate|-",
         "check|--netlist|n\net|--certificate|cert",

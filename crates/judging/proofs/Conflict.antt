@@ -46,8 +46,8 @@ apart net shorts node first second built agree conflict =
     pads_agree : PadsAgree (map (grouped_pad conflict.group) net.pads)
     pads_agree =
         All-map (λ p. All (λ (q : Pad). p.node ≡ q.node → p.volts ≡ q.volts) (map (grouped_pad conflict.group) net.pads)) (grouped_pad conflict.group) net.pads (λ k d l.
-            All-map (λ (q : Pad). (grouped_pad conflict.group (get_or net.pads k d)).node ≡ q.node → (get_or net.pads k d).volts ≡ q.volts) (grouped_pad conflict.group) net.pads (λ m e o same.
-                agree k d l m e o ((conflict.groups.joined (get_or net.pads k d).node (get_or net.pads m e).node (built.pads_are_nodes k d l) (built.pads_are_nodes m e o)).0 same)))
+        All-map (λ (q : Pad). (grouped_pad conflict.group (get_or net.pads k d)).node ≡ q.node → (get_or net.pads k d).volts ≡ q.volts) (grouped_pad conflict.group) net.pads (λ m e o same.
+        agree k d l m e o ((conflict.groups.joined (get_or net.pads k d).node (get_or net.pads m e).node (built.pads_are_nodes k d l) (built.pads_are_nodes m e o)).0 same)))
 
 -- A netlist has one conflict.
 same_told : (a b : NetError) (o : Option NetError) → o ≡ Some a → o ≡ Some b → a ≡ b
@@ -61,7 +61,7 @@ one_conflict net shorts node node' first first' second second' a b =
     let fs : a.firsts ≡ b.firsts = one_firsts net.nodes shorts a.group a.firsts b.group b.firsts a.groups b.groups in
     let g : a.group ≡ b.group = one_group net.nodes shorts a.group a.firsts b.group b.firsts a.groups b.groups in
     let moved : first_conflict (map (grouped_pad a.group) net.pads) ≡ Some (build.PadConflict b.number first' second') =
-        subst (λ x. first_conflict (map (grouped_pad x) net.pads) ≡ Some (build.PadConflict b.number first' second')) (sym g) b.conflict in
+    subst (λ x. first_conflict (map (grouped_pad x) net.pads) ≡ Some (build.PadConflict b.number first' second')) (sym g) b.conflict in
     let same = numbers_of a.number b.number first first' second second' (same_told _ _ _ a.conflict moved) in
     (a.first_node ∙ ap (λ n. get_or a.firsts n 0) same.0 ∙ ap (λ xs. get_or xs b.number 0) fs ∙ sym b.first_node, same.1, same.2)
 

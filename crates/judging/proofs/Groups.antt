@@ -98,7 +98,7 @@ module _ (nodes : ℕ) (shorts : List (ℕ × ℕ)) (group firsts group' firsts'
       let in_firsts' : g' < length firsts' = b.each_group i 0 (subst (λ n. i < n) (sym b.one_a_node) node) in
       let in_both : g' < length firsts = subst (λ fs. g' < length fs) (sym one_firsts) in_firsts' in
       let same : get_or firsts g 0 ≡ get_or firsts g' 0 =
-          one_first nodes shorts group firsts group' firsts' a b i node ∙ ap (λ fs. get_or fs g' 0) (sym one_firsts) in
+      one_first nodes shorts group firsts group' firsts' a b i node ∙ ap (λ fs. get_or fs g' 0) (sym one_firsts) in
       sym (a.of_its_group g in_firsts) ∙ ap (λ x. get_or group x 0) same ∙ a.of_its_group g' in_both)
 
 -- ---- one merged network

@@ -91,7 +91,7 @@ module _ (laws : AreLaws) (file_n file_c nt ct : List ℕ) where
   one_merge a b x y =
       let named : y.named ≡ x.named = laws.one_named nt y.named x.named y.netlist x.netlist in
       let conflict : IsMergeRefusal x.named (merging.PadConflict y.node y.first y.second) =
-          subst (λ n. IsMergeRefusal n (merging.PadConflict y.node y.first y.second)) named y.conflict in
+      subst (λ n. IsMergeRefusal n (merging.PadConflict y.node y.first y.second)) named y.conflict in
       x.told ∙ one_merge_refusal x.named x.node y.node x.first y.first x.second y.second x.conflict conflict ∙ sym y.told
 
   -- A netlist of which two pads of a group differ has no merged network.
@@ -186,12 +186,11 @@ between : IsPrinciple → (nt ct : List ℕ) (a : Answer) → (t : Tests nt ct a
 between principle nt ct a t holds q =
     principle.by_groups t.named.net t.named.shorts t.merged.group merge.firsts q (entry_of t.lists.low) (entry_of t.lists.high) t.built t.keeps.shorts_are_nodes merge.groups
     (λ p c l solution g below.
-        let solves : IsSolution t.merged.net q p c l = subst (λ (n : Network). IsSolution n q p c l) (sym merge.network) solution in
-        let node : g < t.merged.net.nodes = subst (λ (n : Network). g < n.nodes) (sym merge.network) below in
-        (
-          principle.at_least_low t.merged.net (entry_of t.lists.low) q p c l t.groups_built.is_network holds.low_half.holds solves g node,
-          principle.at_most_high t.merged.net (entry_of t.lists.high) q p c l t.groups_built.is_network holds.high_half.holds solves g node,
-        ))
+    let solves : IsSolution t.merged.net q p c l = subst (λ (n : Network). IsSolution n q p c l) (sym merge.network) solution in
+    let node : g < t.merged.net.nodes = subst (λ (n : Network). g < n.nodes) (sym merge.network) below in (
+      principle.at_least_low t.merged.net (entry_of t.lists.low) q p c l t.groups_built.is_network holds.low_half.holds solves g node,
+      principle.at_most_high t.merged.net (entry_of t.lists.high) q p c l t.groups_built.is_network holds.high_half.holds solves g node,
+    ))
   where
     merge : IsMerged t.named t.merged
     merge = t.texts.network.merge

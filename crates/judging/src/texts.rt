@@ -30,12 +30,7 @@ pub fn judge(
 }
 
 /// Merges a netlist, and judges the text of its certificate.
-fn judge_merged(
-    alloc: Global,
-    named: Named,
-    certificate: &str,
-    certificate_text: &[u8],
-) -> Answer
+fn judge_merged(alloc: Global, named: Named, certificate: &str, certificate_text: &[u8]) -> Answer
     requires { NamedKeeps named }
     ensures { (netlist text : List ℕ) → ReadsNetlist text (Ok named)
         → Judges netlist certificate.now text certificate_text.now result }

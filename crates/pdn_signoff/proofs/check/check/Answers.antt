@@ -35,8 +35,8 @@ returns-clause-answers g c =
       not_too_long = c.answers_to_texts.ensures.not_too_long;
     } in
     let judged : Judges n m nt ct c.judge.result =
-        subst (λ (t : List ℕ). Judges n m t ct c.judge.result) c.deref.ensures.value
-        (subst (λ (t : List ℕ). Judges n m c.deref.result.now t c.judge.result) c.deref-2.ensures.value c.judge.ensures) in
+    subst (λ (t : List ℕ). Judges n m t ct c.judge.result) c.deref.ensures.value
+    (subst (λ (t : List ℕ). Judges n m c.deref.result.now t c.judge.result) c.deref-2.ensures.value c.judge.ensures) in
     let texts : AreTexts before.known n m nt ct = record {
       netlist_is = c.in-Ok.ensures.bytes;
       netlist_fits = omega (arith, c.in-Ok.ensures.within, c.in-Ok.text.ok);

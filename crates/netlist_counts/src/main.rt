@@ -1,11 +1,10 @@
-//! `netlist_counts [plain] FILE`: reads a netlist, or a plain one, and prints how many nodes and resistors its network has.
+//! `netlist_counts FILE`: reads a netlist, and prints how many nodes and resistors its network has.
 //!
 //! It prints nothing of the names and numbers, so that its time is that of the reader: `bench/netlist_speed` measures it.
 #![tactic(auto)]
 
 use grid_net::Net;
 use outside::{LONGEST_TEXT, StdFiles, read_whole};
-use plain_netlist::read_plain_netlist;
 use spice_grid::read_netlist;
 use std::alloc::Global;
 use std::process::ExitCode;
@@ -40,16 +39,8 @@ fn counts_of(net: &Net) -> Counts {
     }
 }
 
-/// What the plain reader makes of a text.
-fn plain_counts(alloc: Global, text: &[u8]) -> Option<Counts> {
-    match read_plain_netlist(alloc, text) {
-        Ok(read) => Some(counts_of(&read.net)),
-        Err(_) => None,
-    }
-}
-
 /// What the reader of netlists makes of a text.
-fn whole_counts(alloc: Global, text: &[u8]) -> Option<Counts> {
+fn counts_in(alloc: Global, text: &[u8]) -> Option<Counts> {
     match read_netlist(alloc, text) {
         Ok(named) => Some(counts_of(&named.net)),
         Err(_) => None,
@@ -58,24 +49,13 @@ fn whole_counts(alloc: Global, text: &[u8]) -> Option<Counts> {
 
 fn main(rt: HostRuntime) -> io::Result<ExitCode> {
     let alloc = rt.alloc();
-    let first = word_at(alloc, &rt, 1)?;
-    let plain = first.as_str() == "plain";
-    let name = if plain {
-        word_at(alloc, &rt, 2)?
-    } else {
-        first
-    };
+    let name = word_at(alloc, &rt, 1)?;
     let mut files = StdFiles::new(alloc, &rt);
     let Ok(text) = read_whole(alloc, &mut files, name.as_str(), LONGEST_TEXT) else {
         println!(rt; "not read")?;
         return Ok(ExitCode::from(NOT_READ));
     };
-    let found = if plain {
-        plain_counts(alloc, &text)
-    } else {
-        whole_counts(alloc, &text)
-    };
-    let Some(found) = found else {
+    let Some(found) = counts_in(alloc, &text) else {
         println!(rt; "refused")?;
         return Ok(ExitCode::from(REFUSED));
     };

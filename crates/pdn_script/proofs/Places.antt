@@ -35,14 +35,14 @@ value_within : (option : ScriptOption) (waits : Option ScriptOption) (k : ℕ) (
 value_within option waits k [] m h = absurd (no_number m h)
 value_within option waits k (w ∷ words) m h =
     let t = step (is_waiting option waits) k (length words) m (value_at_from option (waits_after waits w) (k + 1) words) h
-        (λ l. value_within option (waits_after waits w) (k + 1) words m l) in
+    (λ l. value_within option (waits_after waits w) (k + 1) words m l) in
     omega arith
 
 macro_within : (waits : Option ScriptOption) (k : ℕ) (words : List Token) (m : ℕ) → macro_at_from waits k words ≡ Some m → m < k + length words
 macro_within waits k [] m h = absurd (no_number m h)
 macro_within waits k (w ∷ words) m h =
     let t = step (is_of_macro_grids waits w) k (length words) m (macro_at_from (waits_after waits w) (k + 1) words) h
-        (λ l. macro_within (waits_after waits w) (k + 1) words m l) in
+    (λ l. macro_within (waits_after waits w) (k + 1) words m l) in
     omega arith
 
 late_near : (p : Option ℕ) (kind : ScriptKind) (a : Found ScriptKind) (n : ℕ) → late_at p kind ≡ Some a → ((m : ℕ) → p ≡ Some m → m < n) → a.at < n + 1

@@ -62,12 +62,15 @@ the_script script = script
 pub gathered : (units : List (List Token)) (held : Held) (a : List Domain) (b : List GridRule) (c : List Stripe) (d : List Ring) (e : List Connect) →
     a ≡ held.lists.domains.items → b ≡ held.lists.grids.items → c ≡ held.lists.stripes.items → d ≡ held.lists.rings.items → e ≡ held.lists.connects.items →
     Holds units held → IsScript units (the_script (record { domains = a; grids = b; stripes = c; rings = d; connects = e }))
-gathered units held a b c d e p q r s t h = let lists : Lists = held.lists in (h.told, h.tells,
-    ap (λ z. the_script (record { domains = z; grids = b; stripes = c; rings = d; connects = e })) p
-    ∙ ap (λ z. the_script (record { domains = lists.domains.items; grids = z; stripes = c; rings = d; connects = e })) q
-    ∙ ap (λ z. the_script (record { domains = lists.domains.items; grids = lists.grids.items; stripes = z; rings = d; connects = e })) r
-    ∙ ap (λ z. the_script (record { domains = lists.domains.items; grids = lists.grids.items; stripes = lists.stripes.items; rings = z; connects = e })) s
-    ∙ ap (λ z. the_script (record { domains = lists.domains.items; grids = lists.grids.items; stripes = lists.stripes.items; rings = lists.rings.items; connects = z })) t ∙ h.script)
+gathered units held a b c d e p q r s t h = let lists : Lists = held.lists in (
+  h.told,
+  h.tells,
+  ap (λ z. the_script (record { domains = z; grids = b; stripes = c; rings = d; connects = e })) p
+      ∙ ap (λ z. the_script (record { domains = lists.domains.items; grids = z; stripes = c; rings = d; connects = e })) q
+      ∙ ap (λ z. the_script (record { domains = lists.domains.items; grids = lists.grids.items; stripes = z; rings = d; connects = e })) r
+      ∙ ap (λ z. the_script (record { domains = lists.domains.items; grids = lists.grids.items; stripes = lists.stripes.items; rings = z; connects = e })) s
+      ∙ ap (λ z. the_script (record { domains = lists.domains.items; grids = lists.grids.items; stripes = lists.stripes.items; rings = lists.rings.items; connects = z })) t ∙ h.script,
+)
 
 -- A script that is kept is the one that the units say.
 pub kept_says : (units : List (List Token)) (script : Script) (r : Result Script AllocError) → IfOk r (λ k. k ≡ script) → IsScript units script → IfOk r (IsScript units)

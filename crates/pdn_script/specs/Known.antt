@@ -13,8 +13,16 @@ use Rattle.script_options.specs.Command.{command_named}
 -- Before the first command.
 abbrev pub nothing_known : Known
 nothing_known = record {
-  domains = []; powers = []; grounds = []; grids = []; ringed = []; last_domain = None; last_grid = None;
-  regionless = false; ended = false; passing = false;
+  domains = [];
+  powers = [];
+  grounds = [];
+  grids = [];
+  ringed = [];
+  last_domain = None;
+  last_grid = None;
+  regionless = false;
+  ended = false;
+  passing = false;
 }
 
 -- The value. A command that ends without a value that it needs is refused.

@@ -12,7 +12,9 @@ use crate::sort::is_end;
 use crate::text::Bytes;
 use number_place::Refused;
 use reading::Word;
-use script_options::{Command, Need, ScriptOption, command_named, form_of, need_of, options_of, value_refused};
+use script_options::{
+    Command, Need, ScriptOption, command_named, form_of, need_of, options_of, value_refused,
+};
 
 /// The kind of a value that is refused.
 fn refused_kind(refused: Refused) -> ScriptKind
@@ -34,10 +36,11 @@ fn first_command(known: &Known<'_>, command: Command) -> Option<ScriptKind>
             None => Some(ScriptKind::UnknownDomain),
             Some(_) => None,
         },
-        Command::AddPdnStripe | Command::AddPdnRing | Command::AddPdnConnect => match known.last_grid {
-            None => Some(ScriptKind::UnknownGrid),
-            Some(_) => None,
-        },
+        Command::AddPdnStripe | Command::AddPdnRing | Command::AddPdnConnect =>
+            match known.last_grid {
+                None => Some(ScriptKind::UnknownGrid),
+                Some(_) => None,
+            },
         _ => None,
     }
 }
@@ -72,11 +75,7 @@ fn need_fault(need: Option<Need>, stands: bool) -> Option<ScriptKind>
 }
 
 /// Why a word in the place of an option is refused after these words.
-fn option_fault(
-    command: Command,
-    before: &[Word<'_>],
-    option: ScriptOption,
-) -> Option<ScriptKind>
+fn option_fault(command: Command, before: &[Word<'_>], option: ScriptOption) -> Option<ScriptKind>
     ensures { result ≡ kind_of_option command (map token before.now) option }
 {
     match option {
@@ -94,7 +93,11 @@ fn own_name_fault<'a>(known: &Known<'a>, command: Command, text: &'a [u8]) -> Op
         Command::DefinePdnGrid => known.grids.contains(text),
         _ => false,
     };
-    if stands { Some(ScriptKind::Twice) } else { None }
+    if stands {
+        Some(ScriptKind::Twice)
+    } else {
+        None
+    }
 }
 
 /// Why the name of a domain is refused that an earlier command has to define.
@@ -171,7 +174,11 @@ fn name_fault<'a>(
         ScriptOption::Name => own_name_fault(known, command, text),
         ScriptOption::VoltageDomains => domain_fault(&known.domains, text),
         ScriptOption::Grid => grid_fault(known, command, text),
-        ScriptOption::Power => net_fault(&known.grounds, &value(ScriptOption::Ground, before), text),
+        ScriptOption::Power => net_fault(
+            &known.grounds,
+            &value(ScriptOption::Ground, before),
+            text,
+        ),
         ScriptOption::Ground => net_fault(&known.powers, &value(ScriptOption::Power, before), text),
         _ => None,
     }
@@ -253,18 +260,16 @@ fn domain_end_fault<'a>(known: &Known<'a>, words: &[Word<'a>]) -> Option<ScriptK
 fn ring_end_fault<'a>(known: &Known<'a>, words: &[Word<'a>]) -> Option<ScriptKind>
     ensures { result ≡ ring_end known.now (map token words.now) }
 {
-    if value(ScriptOption::Grid, words).is_none() && known.ringed.contains(or_empty(&known.last_grid)) {
+    if value(ScriptOption::Grid, words).is_none()
+        && known.ringed.contains(or_empty(&known.last_grid))
+    {
         return Some(ScriptKind::Twice);
     }
     missing_fault(lacks(Command::AddPdnRing, words))
 }
 
 /// Why the end of a command is refused.
-fn end_fault<'a>(
-    known: &Known<'a>,
-    command: Command,
-    words: &[Word<'a>],
-) -> Option<ScriptKind>
+fn end_fault<'a>(known: &Known<'a>, command: Command, words: &[Word<'a>]) -> Option<ScriptKind>
     ensures { result ≡ kind_at_end known.now command (map token words.now) }
 {
     match command {

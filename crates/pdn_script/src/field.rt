@@ -159,11 +159,7 @@ pub(crate) fn maybe_numbers(
     ensures { IfOk result (λ numbers. AreMaybeNumbers value.now numbers) }
 {
     match value {
-        Some(text) => Ok(Some(Entries::new(numbers_in(
-            alloc,
-            Quantity::Length,
-            text.bytes(),
-        )?))),
+        Some(text) => Ok(Some(Entries::new(numbers_in(alloc, Quantity::Length, text.bytes())?))),
         None => Ok(None),
     }
 }

@@ -92,8 +92,10 @@ impl<'a> Known<'a> {
     {
         let name = domain_name(words);
         self.domains.add(name)?;
-        self.powers.add(or_empty(&value(ScriptOption::Power, words)))?;
-        self.grounds.add(or_empty(&value(ScriptOption::Ground, words)))?;
+        self.powers
+            .add(or_empty(&value(ScriptOption::Power, words)))?;
+        self.grounds
+            .add(or_empty(&value(ScriptOption::Ground, words)))?;
         self.last_domain = Some(Bytes::new(name));
         if value(ScriptOption::Region, words).is_none() {
             self.regionless = true;

@@ -30,9 +30,15 @@ fn domain_late_fault<'a>(known: &Known<'a>, words: &[Word<'a>]) -> Option<Found<
     ensures { result ≡ domain_late known.now (map token words.now) }
 {
     if value(ScriptOption::Name, words).is_none()
-        && known.domains.contains(or_empty(&value(ScriptOption::Region, words)))
+        && known
+            .domains
+            .contains(or_empty(&value(ScriptOption::Region, words)))
     {
-        late_at(value_at(ScriptOption::Region, words), words.len(), ScriptKind::Twice)
+        late_at(
+            value_at(ScriptOption::Region, words),
+            words.len(),
+            ScriptKind::Twice,
+        )
     } else {
         None
     }

@@ -53,7 +53,10 @@ fn grid_of<'a>(
     ensures { IfOk result (λ grid. IsGrid known.now (token first.now) (map token words.now) grid) }
 {
     let own_name = name(alloc, &value(ScriptOption::Name, words))?;
-    let domain = or_last(&value(ScriptOption::VoltageDomains, words), &known.last_domain);
+    let domain = or_last(
+        &value(ScriptOption::VoltageDomains, words),
+        &known.last_domain,
+    );
     let voltage_domains = Name::new(alloc, domain)?;
     let pins = maybe_names(alloc, &value(ScriptOption::Pins, words))?;
     let orient = maybe_names(alloc, &value(ScriptOption::Orient, words))?;
@@ -123,8 +126,16 @@ fn ring_of<'a>(
 {
     let layers = names(alloc, &value(ScriptOption::Layers, words))?;
     let widths = numbers(alloc, Quantity::Width, &value(ScriptOption::Widths, words))?;
-    let spacings = numbers(alloc, Quantity::Length, &value(ScriptOption::Spacings, words))?;
-    let core_offsets = numbers(alloc, Quantity::Length, &value(ScriptOption::CoreOffsets, words))?;
+    let spacings = numbers(
+        alloc,
+        Quantity::Length,
+        &value(ScriptOption::Spacings, words),
+    )?;
+    let core_offsets = numbers(
+        alloc,
+        Quantity::Length,
+        &value(ScriptOption::CoreOffsets, words),
+    )?;
     let own_grid = or_last(&value(ScriptOption::Grid, words), &known.last_grid);
     let grid = Name::new(alloc, own_grid)?;
     let nets = maybe_names(alloc, &value(ScriptOption::Nets, words))?;
@@ -176,9 +187,13 @@ fn command_says<'a>(
     match command_named(first.text) {
         Command::SetVoltageDomain => Ok(Some(Statement::Domain(domain_of(alloc, first, words)?))),
         Command::DefinePdnGrid => Ok(Some(Statement::Grid(grid_of(alloc, known, first, words)?))),
-        Command::AddPdnStripe => Ok(Some(Statement::Stripe(stripe_of(alloc, known, first, words)?))),
+        Command::AddPdnStripe => Ok(Some(Statement::Stripe(stripe_of(
+            alloc, known, first, words,
+        )?))),
         Command::AddPdnRing => Ok(Some(Statement::Ring(ring_of(alloc, known, first, words)?))),
-        Command::AddPdnConnect => Ok(Some(Statement::Connect(connect_of(alloc, known, first, words)?))),
+        Command::AddPdnConnect => Ok(Some(Statement::Connect(connect_of(
+            alloc, known, first, words,
+        )?))),
         _ => Ok(None),
     }
 }

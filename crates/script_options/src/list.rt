@@ -30,7 +30,11 @@ fn separates(text: &[u8]) -> bool
     if text.is_empty() {
         return false;
     }
-    text[0] == b' ' || text[0] == b'\t' || text[0] == b'\r' || text[0] == b'\n' || begins_joined(text)
+    text[0] == b' '
+        || text[0] == b'\t'
+        || text[0] == b'\r'
+        || text[0] == b'\n'
+        || begins_joined(text)
 }
 
 /// What is left of the list from its first word on.

@@ -20,12 +20,28 @@ const VALUES: [(ValueForm, &[u8], Option<Refused>); 24] = [
     (ValueForm::Name, b"#VDD", Some(Refused::Syntax)),
     // One number.
     (ValueForm::Number(Quantity::Length), b"-0.0", None),
-    (ValueForm::Number(Quantity::Length), b"-1e-9", Some(Refused::Syntax)),
-    (ValueForm::Number(Quantity::Width), b"-0", Some(Refused::Syntax)),
+    (
+        ValueForm::Number(Quantity::Length),
+        b"-1e-9",
+        Some(Refused::Syntax),
+    ),
+    (
+        ValueForm::Number(Quantity::Width),
+        b"-0",
+        Some(Refused::Syntax),
+    ),
     (ValueForm::Number(Quantity::Width), b" 1 ", Some(NO_NUMBER)),
-    (ValueForm::Number(Quantity::Width), b"(", Some(Refused::Syntax)),
+    (
+        ValueForm::Number(Quantity::Width),
+        b"(",
+        Some(Refused::Syntax),
+    ),
     (ValueForm::Number(Quantity::Count), b"1000000", None),
-    (ValueForm::Number(Quantity::Count), b"1000001", Some(Refused::Syntax)),
+    (
+        ValueForm::Number(Quantity::Count),
+        b"1000001",
+        Some(Refused::Syntax),
+    ),
     (ValueForm::Number(Quantity::Count), b"2.0", Some(NO_NUMBER)),
     // Lists, split at white space and at joined lines.
     (WIDTHS, b" 1\\\r\n2\\\n", None),
@@ -37,7 +53,11 @@ const VALUES: [(ValueForm, &[u8], Option<Refused>); 24] = [
     (OFFSETS, b"x 1e-9 2 3", Some(NO_NUMBER)),
     (ValueForm::Names(Counts::Any), b"", None),
     (ValueForm::Names(Counts::Two), b"a\nb", None),
-    (ValueForm::Names(Counts::Two), b"a \"b\"", Some(Refused::Syntax)),
+    (
+        ValueForm::Names(Counts::Two),
+        b"a \"b\"",
+        Some(Refused::Syntax),
+    ),
 ];
 
 #[test]
@@ -53,7 +73,10 @@ fn numbers(rt: HostRuntime) {
     assert_eq!(rt; number_in(Quantity::Length, b"1e5"), Some(100_000_000_000));
     assert_eq!(rt; number_in(Quantity::Count, b"12"), Some(12));
     match numbers_in(rt.alloc(), Quantity::Length, b"1 2\n0.5") {
-        Ok(values) => assert_eq!(rt; values.as_slice(), [1_000_000, 2_000_000, 500_000].as_slice()),
+        Ok(values) => assert_eq!(rt;
+            values.as_slice(),
+            [1_000_000, 2_000_000, 500_000].as_slice()
+        ),
         Err(_) => panic!(rt; "refused"),
     }
 }
@@ -62,16 +85,28 @@ fn numbers(rt: HostRuntime) {
 fn names_of_commands_and_options(rt: HostRuntime) {
     assert_eq!(rt; command_named(b"global_connect"), Command::PassedOver);
     assert_eq!(rt; command_named(b"Pdngen"), Command::Unknown);
-    assert_eq!(rt; option_named(b"-grid_over_pg_pins"), ScriptOption::GridOverPgPins);
+    assert_eq!(rt;
+        option_named(b"-grid_over_pg_pins"),
+        ScriptOption::GridOverPgPins
+    );
     assert_eq!(rt; option_named(b"-secondary_power"), ScriptOption::LeftOut);
     assert_eq!(rt; option_named(b"grid"), ScriptOption::Unknown);
 }
 
 #[test]
 fn rows_of_the_table(rt: HostRuntime) {
-    assert_eq!(rt; need_of(Command::AddPdnStripe, ScriptOption::Width), Some(Need::Required));
-    assert_eq!(rt; need_of(Command::AddPdnStripe, ScriptOption::Pitch), Some(Need::RequiredOfStraps));
-    assert_eq!(rt; need_of(Command::DefinePdnGrid, ScriptOption::Halo), Some(Need::OfMacroGrids));
+    assert_eq!(rt;
+        need_of(Command::AddPdnStripe, ScriptOption::Width),
+        Some(Need::Required)
+    );
+    assert_eq!(rt;
+        need_of(Command::AddPdnStripe, ScriptOption::Pitch),
+        Some(Need::RequiredOfStraps)
+    );
+    assert_eq!(rt;
+        need_of(Command::DefinePdnGrid, ScriptOption::Halo),
+        Some(Need::OfMacroGrids)
+    );
     assert_eq!(rt; need_of(Command::AddPdnConnect, ScriptOption::Region), None);
     assert_eq!(rt; need_of(Command::Pdngen, ScriptOption::Name), None);
 }

@@ -5,9 +5,7 @@ use crate::{Printed, RECORD};
 use entry_list::Entries;
 use fixed_decimal::print;
 use outside::{Name, Place};
-use pdn_script::{
-    Connect, Domain, GridRule, Ring, Script, ScriptKind, Start, Stripe, read_script,
-};
+use pdn_script::{Connect, Domain, GridRule, Ring, Script, ScriptKind, Start, Stripe, read_script};
 use std::alloc::{AllocError, Global};
 
 /// The kind of a refusal, as it is printed. Want of memory is no kind.
@@ -37,11 +35,7 @@ fn add_text(out: &mut Vec<u8>, name: &[u8], value: &[u8]) -> Result<(), AllocErr
     out.extend_from_slice(value)
 }
 
-fn add_maybe_text(
-    out: &mut Vec<u8>,
-    name: &[u8],
-    value: &Option<Name>,
-) -> Result<(), AllocError> {
+fn add_maybe_text(out: &mut Vec<u8>, name: &[u8], value: &Option<Name>) -> Result<(), AllocError> {
     match value {
         Some(value) => add_text(out, name, value.bytes()),
         None => Ok(()),
@@ -54,11 +48,7 @@ fn add_number(out: &mut Vec<u8>, name: &[u8], value: u64) -> Result<(), AllocErr
     print(out, i128::from(value), 0)
 }
 
-fn add_maybe_number(
-    out: &mut Vec<u8>,
-    name: &[u8],
-    value: Option<u64>,
-) -> Result<(), AllocError> {
+fn add_maybe_number(out: &mut Vec<u8>, name: &[u8], value: Option<u64>) -> Result<(), AllocError> {
     match value {
         Some(value) => add_number(out, name, value),
         None => Ok(()),

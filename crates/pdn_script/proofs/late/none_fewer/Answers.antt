@@ -6,7 +6,7 @@ pub returns-then-not-is_fine : goal.returns-then-not-is_fine
 returns-then-not-is_fine c = (
   (λ h. absurd (let t : false ≡ true = h in cc)),
   (λ none. absurd (one_shown c.args.known.now c.args.part.now c.loop-count.count c.loop-count-test.true
-    (λ s. let no : true ≡ false = sym (c.is_fine.ensures.1 s) ∙ c.if-not-is_fine.true in cc) none)),
+      (λ s. let no : true ≡ false = sym (c.is_fine.ensures.1 s) ∙ c.if-not-is_fine.true in cc) none)),
 )
 
 pub returns : goal.returns

@@ -9,8 +9,9 @@ use Rattle.script_options.proofs.number.numbers_in.Goals as goal
 pub loop-part-preserved : goal.loop-part-preserved
 loop-part-preserved c =
     let h = c.loop-part.invariant in
-    let word = c.in-Some.part.word.now in
-    (h.0 ++ word ∷ [],
-    subst (λ (z : List ℕ). InTurn (IsNumberIn c.args.quantity) (h.0 ++ word ∷ []) z) (sym c.in_ok-push.ensures.items)
-    (in-turn-more (IsNumberIn c.args.quantity) h.0 c.loop-part.values.items word c.in-Some-number_in.value h.1 c.in-Some-number_in.ensures),
-    one_more h.0 (words_of c.args.text.now) (words_of c.loop-part.rest.now) (words_of c.in-Some.part.rest.now) word c.in-Some.ensures.some h.2)
+    let word = c.in-Some.part.word.now in (
+      h.0 ++ word ∷ [],
+      subst (λ (z : List ℕ). InTurn (IsNumberIn c.args.quantity) (h.0 ++ word ∷ []) z) (sym c.in_ok-push.ensures.items)
+          (in-turn-more (IsNumberIn c.args.quantity) h.0 c.loop-part.values.items word c.in-Some-number_in.value h.1 c.in-Some-number_in.ensures),
+      one_more h.0 (words_of c.args.text.now) (words_of c.loop-part.rest.now) (words_of c.in-Some.part.rest.now) word c.in-Some.ensures.some h.2,
+    )

@@ -1,7 +1,6 @@
 -- Two pads of one group differ, or any two have one voltage, and not both; a conflict of a netlist is one.
-use Rattle.std.proofs.Common.{◌≡◌, ℕ, ◌<◌, ◌↔◌, ℤ, List, [], length, get_or, map, refl, sym, ap, subst, ◌∙◌, arith, All, Option, Some, None, Bool, true, cond}
+use Rattle.std.proofs.Common.{◌≡◌, ℕ, ℤ, List, [], get_or, map, refl, sym, ap, subst, ◌∙◌, All, Option, Some, None, cond}
 use Rattle.std.proofs.lemmas.List.Elements.{All-map}
-use Rattle.std.specs.Ordering.{int_eq}
 use Rattle.std.proofs.lemmas.Bool.Decides.{Decides-int_eq}
 use Rattle.grid_net.specs.declared.part.Pad.{Pad}
 use Rattle.grid_net.specs.declared.error.NetError.{NetError}
@@ -12,11 +11,9 @@ use Rattle.grid_net.specs.Laws.Search.{of_none}
 use Rattle.grid_net.specs.Limits.{IsBuilt}
 use Rattle.grid_net.specs.Network.{Network, first_pad}
 use Rattle.group_net.specs.Merging.{grouped_pad, PadsOfGroupsAgree, IsConflict}
-use Rattle.node_groups.specs.Groups.{AreGroups}
 use Rattle.short_merge.specs.declared.merged.MergeError.TheVariants.{PadConflict}
 use Rattle.short_merge.specs.Refusal.{IsMergeRefusal}
 use Rattle.spice_grid.specs.declared.named.Named.{Named}
-use Rattle.answers.specs.declared.answer.Answer.{Answer}
 use Rattle.answers.specs.declared.answer.Answer.TheVariants as told
 use Rattle.judging.proofs.Groups.{one_firsts, one_group}
 

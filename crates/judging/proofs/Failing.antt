@@ -1,5 +1,5 @@
 -- A test of a certificate that fails names a node.
-use Rattle.std.proofs.Common.{◌≡◌, ◌<◌, ℕ, ℤ, pos, subst}
+use Rattle.std.proofs.Common.{◌<◌, ℕ, ℤ, pos, subst}
 use Rattle.grid_net.specs.declared.part.Resistor.{Resistor}
 use Rattle.grid_net.specs.Network.{Network, IsNetwork, FlowRule}
 use Rattle.rounding.specs.Rounding.{floor_div, ceil_div}

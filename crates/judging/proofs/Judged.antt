@@ -1,6 +1,6 @@
 -- What follows from the way in which two texts are judged.
 use Rattle.std.specs.Prelude.{⊤}
-use Rattle.std.proofs.Common.{◌≡◌, ◌≢◌, ◌<◌, ◌⊎◌, inl, inr, ℕ, ℤ, ◌*ℤ◌, ◌≤ℤ◌, pos, List, Option, Some, None, Result, Ok, Err, length, map, get_or, refl, sym, ap, subst, ◌∙◌, slice_get}
+use Rattle.std.proofs.Common.{◌≡◌, ◌≢◌, ◌<◌, ◌⊎◌, inl, inr, ℕ, ℤ, ◌*ℤ◌, ◌≤ℤ◌, pos, List, Option, Some, None, Ok, Err, length, get_or, refl, sym, ap, subst, ◌∙◌, slice_get}
 use Rattle.outside.specs.declared.place.Place.{Place}
 use Rattle.bound_check.specs.declared.fails.Fails.{Fails}
 use Rattle.bound_check.specs.Failing.{first_failing}

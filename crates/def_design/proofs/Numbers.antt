@@ -1,5 +1,5 @@
 -- Numbers: those that are refused, and those that are read.
-use Rattle.std.proofs.Common.{◌≡◌, ◌↔◌, IsTrue, Bool, true, false, ◌≢◌, ◌≤◌, ◌<◌, ◌^◌, ◌⊎◌, ℕ, ℤ, pos, List, Result, Ok, Err, inl, inr, refl, sym, ◌∙◌, ap, subst, arith, to_z, of_z, Contains}
+use Rattle.std.proofs.Common.{◌≡◌, ◌↔◌, IsTrue, Bool, true, false, ◌≢◌, ◌≤◌, ◌<◌, ◌^◌, ◌⊎◌, ℕ, ℤ, pos, List, Result, Ok, Err, inl, inr, refl, sym, ◌∙◌, ap, subst, arith, to_z, of_z, length, Contains}
 use Rattle.std.specs.Prelude.{unsigned_abs}
 use Rattle.std.specs.Int.{w64}
 use Rattle.std.proofs.lemmas.Int.{to_z-of_z, fits_signed_from_abs}
@@ -14,6 +14,7 @@ use Rattle.def_design.specs.Record.{SaysCount}
 use Rattle.def_statements.specs.declared.sort.Sort.{Sort}
 use Rattle.def_statements.specs.declared.sort.Sort.TheVariants as sorts
 use Rattle.def_statements.specs.Unit.{text_at}
+use Rattle.name_table.specs.Numbering.{TakesName}
 use Rattle.number_place.specs.declared.place.NumberPlace.{NumberPlace}
 use Rattle.number_place.specs.declared.place.Refused.{Refused}
 use Rattle.number_place.specs.Place.{IsNumberAt, HasSign}
@@ -128,9 +129,10 @@ pub counted_as : (says : Bool) (unit : List Token) (v : ℤ) → SaysCount says 
 counted_as true unit v is = read_as Positive (text_at 7 unit) (text_at 7 unit) v refl is
 counted_as false unit v is = ap (λ z. to_z w64 (of_z w64 z)) is
 
--- A name that is none of these.
-pub not_there : (names : List (List ℕ)) (name own : List ℕ) (b : Bool) → name ≡ own → IsTrue b ↔ Contains names name → b ≡ false → Contains names own → ⊥
-not_there names name own b same tells is there = false≢true (sym is ∙ tells.1 (subst (λ z. Contains names z) (sym same) there))
+-- A name that the table has grown by is new.
+pub new_name : (old new : List (List ℕ)) (name own : List ℕ) → name ≡ own → length old < length new → TakesName old new name → Contains old own → ⊥
+new_name old new name own same more (inl h) there = omega (arith, more, ap length h.1)
+new_name old new name own same more (inr h) there = h.0 (subst (λ z. Contains old z) (sym same) there)
 
 pub one_is : (text : List ℕ) (v : ℤ) → of_z w64 v ≡ 1 → IsNumber Positive text v → v ≡ pos 1
 one_is text v e is = sym (kept Positive v is.1.2.within) ∙ ap (λ z. to_z w64 z) e

@@ -46,7 +46,8 @@ impl<'a> Open<'a> {
     /// Its spacing, if the unit says the first one.
     fn take_spacing(&mut self, unit: &[Word<'a>]) -> Result<(), AllocError>
         ensures layer { self.new.layer ≡ self.old.layer }
-        ensures spacing { OnOk result (Leads (FirstSays is_spacing SaysSpacing) (map token unit.now) self.old.spacing self.new.spacing) }
+        ensures spacing { OnOk result
+            (Leads (FirstSays is_spacing SaysSpacing) (map token unit.now) self.old.spacing self.new.spacing) }
         ensures excepts { self.new.excepts ≡ self.old.excepts }
     {
         if !begins(Sort::Spacing, 2, unit) {

@@ -7,6 +7,7 @@ ghost use Rattle.reading.specs.Word.{token};
 
 use crate::corners::point_of;
 use crate::kinds::{is_placed, orient_of};
+use crate::number::has_grown;
 use crate::record::Component;
 use def_statements::{Sort, begins, sort_at, text_at};
 use geom_rect::Orient;
@@ -46,7 +47,8 @@ fn placed(last: Component, unit: &[Word<'_>]) -> Result<Component, AllocError>
     requires { is_placed (map token unit.now) ≡ true }
     ensures name { IfOk result (λ one. one.name ≡ last.name) }
     ensures cell { IfOk result (λ one. one.cell ≡ last.cell) }
-    ensures place { IfOk result (λ one. Leads (FirstSays is_placed SaysPlace) (map token unit.now) last.place one.place) }
+    ensures place { IfOk result
+        (λ one. Leads (FirstSays is_placed SaysPlace) (map token unit.now) last.place one.place) }
 {
     if last.place.is_some() {
         return Ok(last);
@@ -75,12 +77,14 @@ impl<'a> Components<'a> {
         ensures { OnOk result (Leads HoldsComponents (map token unit.now) self.old self.new) }
     {
         let name = text_at(1, unit);
-        if self.names.contains(name) {
-            return Err(AllocError);
-        }
+        let before = self.names.len();
         match self.names.number(name) {
             Ok(_) => {}
             Err(_) => return Err(AllocError),
+        }
+        let after = self.names.len();
+        if !has_grown(before, after) {
+            return Err(AllocError);
         }
         self.items.push(Component {
             name: Name::new(alloc, name)?,

@@ -1,11 +1,9 @@
 //! The faults that the words of a unit show.
-ghost use Rattle.std.specs.Prelude.{◌≡◌, ℕ, ℤ, List, true};
-ghost use Rattle.def_design.specs.Fault.{refused_kind, NumberFault, ApartFault, OneFault, stands, names_of, DieEndFault, TurnFault, NoArea, missing, MissingFault};
+ghost use Rattle.std.specs.Prelude.{◌≡◌, ◌↔◌, IsTrue, Contains, true, map};
+ghost use Rattle.def_design.specs.Fault.{refused_kind, NumberFault, ApartFault, OneFault, DieEndFault, TurnFault, NoArea, missing, MissingFault};
 ghost use Rattle.def_design.specs.declared.error.DefKind.{DefKind as Reason};
-ghost use Rattle.def_design.specs.Number.{IsNumber};
 ghost use Rattle.reading.specs.Fault.{Finds};
 ghost use Rattle.reading.specs.Word.{token};
-ghost use Rattle.std.specs.Prelude.{map, ◌↔◌, IsTrue, Contains};
 
 use crate::error::{DefKind, Item};
 use crate::kinds::is_across;

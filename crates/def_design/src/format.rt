@@ -1,5 +1,5 @@
 //! The text of a design as a format.
-ghost use Rattle.std.specs.Prelude.{◌≡◌, List, map};
+ghost use Rattle.std.specs.Prelude.{List, map};
 ghost use Rattle.def_design.specs.Fault.{LastFault};
 ghost use Rattle.def_design.specs.Format.{format};
 ghost use Rattle.def_design.specs.inside.Held.{Holds, HoldsSaid};

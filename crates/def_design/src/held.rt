@@ -2,7 +2,7 @@
 //!
 //! A unit that is whole has shown no fault, so its numbers can be read and its names are new. Where they are not, the
 //! answer is want of memory, which no clause ties to anything; it never comes.
-ghost use Rattle.std.specs.Prelude.{◌≡◌, [], IfOk, OnOk, map};
+ghost use Rattle.std.specs.Prelude.{[], IfOk, OnOk, map};
 ghost use Rattle.def_design.specs.inside.Held.{Holds, HoldsSaid, Leads};
 ghost use Rattle.reading.specs.Word.{token};
 

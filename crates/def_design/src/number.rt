@@ -1,5 +1,5 @@
 //! The numbers of a design: whole numbers of its units, and counts.
-ghost use Rattle.std.specs.Prelude.{◌≡◌, ◌↔◌, ℤ, List, Ok, Result, IfOk, IsTrue, pos};
+ghost use Rattle.std.specs.Prelude.{◌≡◌, ◌<◌, ◌↔◌, ℤ, Ok, Result, IfOk, IsTrue, pos};
 ghost use Rattle.def_design.specs.Number.{place_of, IsSame};
 ghost use Rattle.number_place.specs.declared.place.Refused.{Refused as Reason};
 ghost use Rattle.number_place.specs.Place.{IsNumberAt};
@@ -90,4 +90,11 @@ pub(crate) fn is_same(one: &[u8], other: &[u8]) -> bool
         (Ok(a), Ok(b)) => a == b,
         _ => false,
     }
+}
+
+/// Whether a count has grown.
+pub(crate) fn has_grown(before: usize, after: usize) -> bool
+    ensures { IsTrue result ↔ (before < after) }
+{
+    before < after
 }

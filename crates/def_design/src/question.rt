@@ -240,7 +240,7 @@ fn end_asks(first: Sort) -> &'static [Question]
     }
 }
 
-/// What is asked of the words of a unit of this section, in their order, by its first word. Of further words nothing is.
+/// What is asked of the words of a unit of this section, by its first word. Of further words nothing is.
 fn asks_of(section: Section, unit: &[Word<'_>]) -> &'static [Question]
     ensures { result.now ≡ asks_of section (map token unit.now) }
 {

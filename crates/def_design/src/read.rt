@@ -18,9 +18,9 @@ use text_lex::Mode;
 /// Reads a placed design in DEF.
 ///
 /// It takes the name, the units of a micrometre, the die, which is a rectangle, the rows, the components with their
-/// places, the rectangles of the layers' blockages, and the regions. Numbers are whole, at most 2^30 from 0. All else is
-/// passed over: other sections to `END` and their word, extensions to `ENDEXT`, other statements to their `;`, special
-/// nets as long as they have no wires. `END DESIGN` is required and ends the text.
+/// places, the rectangles of the blockages, and the regions. Numbers are whole, at most 2^30 from 0. All else is
+/// passed over: other sections to `END` and their word, extensions to `ENDEXT`, other statements to their `;`, and
+/// special nets as long as they have no wires. `END DESIGN` is required and ends the text.
 ///
 /// Errors: the refusal at the earliest word, and there of the first kind, as `DefKind` lists them; `Want` for want of
 /// memory.

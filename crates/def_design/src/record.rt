@@ -1,5 +1,4 @@
 //! A placed design. Lengths and places are units of the design, of which a micrometre has `units`.
-ghost use Rattle.std.specs.Prelude.{◌≡◌};
 
 use entry_list::Entries;
 use geom_rect::{Orient, Rect};

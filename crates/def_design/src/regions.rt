@@ -5,6 +5,7 @@ ghost use Rattle.def_design.specs.Unit.{is_region, is_more};
 ghost use Rattle.reading.specs.Word.{token};
 
 use crate::corners::area_of;
+use crate::number::has_grown;
 use crate::record::Fence;
 use def_statements::{Sort, begins, text_at};
 use entry_list::Entries;
@@ -50,12 +51,14 @@ impl<'a> Regions<'a> {
         ensures { OnOk result (Leads HoldsRegions (map token unit.now) self.old self.new) }
     {
         let name = text_at(1, unit);
-        if self.names.contains(name) {
-            return Err(AllocError);
-        }
+        let before = self.names.len();
         match self.names.number(name) {
             Ok(_) => {}
             Err(_) => return Err(AllocError),
+        }
+        let after = self.names.len();
+        if !has_grown(before, after) {
+            return Err(AllocError);
         }
         let mut rects = Vec::new(alloc);
         rects.push(area_of(3, unit)?)?;

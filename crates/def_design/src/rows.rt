@@ -3,8 +3,6 @@ ghost use Rattle.std.specs.Prelude.{◌≡◌, Some, IfOk, OnOk, map};
 ghost use Rattle.def_design.specs.Record.{SaysRow, SaysCount, SaysStep};
 ghost use Rattle.def_design.specs.Unit.{upright};
 ghost use Rattle.def_design.specs.inside.Held.{HoldsRows, Leads};
-ghost use Rattle.def_statements.specs.Sort.{the};
-ghost use Rattle.def_statements.specs.Unit.{sort_at};
 ghost use Rattle.reading.specs.Word.{token};
 
 use crate::kinds::{is_row, upright};

@@ -34,7 +34,8 @@ impl Top {
 
     /// Its name, if the unit says the first one.
     fn take_name(&mut self, alloc: Global, unit: &[Word<'_>]) -> Result<(), AllocError>
-        ensures name { OnOk result (Leads (FirstSays is_design SaysName) (map token unit.now) self.old.name self.new.name) }
+        ensures name { OnOk result
+            (Leads (FirstSays is_design SaysName) (map token unit.now) self.old.name self.new.name) }
         ensures units { self.new.units ≡ self.old.units }
         ensures die { self.new.die ≡ self.old.die }
     {
@@ -51,7 +52,8 @@ impl Top {
     /// Its units, if the unit says the first ones.
     fn take_units(&mut self, unit: &[Word<'_>]) -> Result<(), AllocError>
         ensures name { self.new.name ≡ self.old.name }
-        ensures units { OnOk result (Leads (FirstSays is_units SaysUnits) (map token unit.now) self.old.units self.new.units) }
+        ensures units { OnOk result
+            (Leads (FirstSays is_units SaysUnits) (map token unit.now) self.old.units self.new.units) }
         ensures die { self.new.die ≡ self.old.die }
     {
         if !begins(Sort::Units, 5, unit) {

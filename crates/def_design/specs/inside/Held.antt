@@ -28,7 +28,8 @@ abbrev pub Leads : {X : Type 0} → (List (List Token) → X → Type 0) → Lis
 Leads holds unit old new = (units : List (List Token)) → holds units old → holds (units ++ unit ∷ []) new
 
 -- What the first of the units of a kind says, if there is one.
-abbrev pub FirstSays : {E : Type 0} → (List Token → Bool) → (List Token → E → Type 0) → List (List Token) → Option E → Type 0
+abbrev pub FirstSays : {E : Type 0} → (List Token → Bool) → (List Token → E → Type 0) → List (List Token) → Option E →
+    Type 0
 FirstSays is says units value = Stated says (first_with is units) value
 
 pub record HoldsTop (text : List (List Token)) (top : Top) : Type 0 where

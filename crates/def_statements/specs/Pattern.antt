@@ -16,8 +16,8 @@ is_name Quoted = false
 is_name TextEnd = false
 is_name _ = true
 
--- In the place of a number stands any word but `;`, `(`, `)` and the end of the text; whether it is a number is asked of
--- the faults.
+-- In the place of a number stands any word but `;`, `(`, `)` and the end of the text; whether it is a number is a
+-- matter of the faults.
 abbrev pub is_number : Sort → Bool
 is_number Semicolon = false
 is_number Open = false

@@ -1,4 +1,3 @@
-ghost use Rattle.std.specs.Prelude.{◌≡◌};
 ghost use Rattle.def_statements.specs.Section.{section_number, all_sections, listed, few};
 
 use reading::Numbered;

@@ -65,7 +65,7 @@ pub enum Sort {
     Regions,
     /// `SPECIALNETS`
     SpecialNets,
-    /// A word that begins a section that ends with `END` and the same word and is passed over, but for `FILLS` and `SLOTS`.
+    /// A word that begins a section that is passed over to `END` and the same word, but for `FILLS` and `SLOTS`.
     PassedSection,
     /// `FILLS` or `SLOTS`, which begin such a section, and stand in a blockage for what blocks no wires.
     Fills,

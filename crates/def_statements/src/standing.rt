@@ -1,6 +1,6 @@
 //! Where units lead.
 ghost use Rattle.std.specs.Prelude.{◌≡◌, map};
-ghost use Rattle.def_statements.specs.Sort.{the};
+ghost use Rattle.def_statements.specs.Unit.{text_at, last_sort};
 ghost use Rattle.def_statements.specs.Standing.{after_top, after_entry_head, after_entry, after_kind, after_parts, after_rects, after_placement, after_region, after_wiring, after_wiring_end, section_by, is_read, passing_top, passing_region, passing_by, passed_on, standing_after, section_in};
 ghost use Rattle.lef_statements.specs.Passing.{unless};
 ghost use Rattle.reading.specs.Word.{token};
@@ -193,11 +193,11 @@ fn passing_region<'a>(first: Sort) -> Option<Passing<'a>>
 }
 
 /// What is passed over after a unit of this section, by its first and its last word.
-fn passing_by<'a>(section: Section, first: Sort, last: Sort, name: &'a [u8]) -> Option<Passing<'a>>
-    ensures { result ≡ passing_by section first last name.now }
+fn passing_by<'a>(section: Section, first: Sort, unit: &[Word<'a>]) -> Option<Passing<'a>>
+    ensures { result ≡ passing_by section first (last_sort (map token unit.now)) (text_at 0 (map token unit.now)) }
 {
     match section {
-        Section::Top => passing_top(first, last, name),
+        Section::Top => passing_top(first, last_sort(unit), text_at(0, unit)),
         Section::Region => passing_region(first),
         _ => None,
     }
@@ -242,7 +242,7 @@ impl<'a> Standing<'a> {
             Some(passing) => self.passing = passed_on(passing, unit),
             None => {
                 let first = sort_at(0, unit);
-                self.passing = passing_by(self.section, first, last_sort(unit), text_at(0, unit));
+                self.passing = passing_by(self.section, first, unit);
                 self.section = section_by(self.section, first);
             }
         }

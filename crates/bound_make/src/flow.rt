@@ -12,7 +12,7 @@ use grid_net::{GREATEST_FLOW, Net, Resistor};
 use rounding::div_floor;
 
 /// The flow through a resistance under a difference of potential, rounded down and held.
-pub fn held_flow(difference: i128, ohms: i128) -> i128
+pub(crate) fn held_flow(difference: i128, ohms: i128) -> i128
     requires resists { pos 1 ≤ℤ ohms }
     ensures value { result ≡ held_rule difference ohms }
     ensures within { IsInLimit flow_limit result }
@@ -21,7 +21,7 @@ pub fn held_flow(difference: i128, ohms: i128) -> i128
 }
 
 /// How far a node is above the other end of the resistor at a place.
-pub fn difference_at(resistors: &[Resistor], x: &[i128], node: u32, place: u32) -> i128
+pub(crate) fn difference_at(resistors: &[Resistor], x: &[i128], node: u32, place: u32) -> i128
     requires place_in { place < length resistors.now }
     requires node_in { node < length x.now }
     requires ends { All (IsResistorOf (length x.now)) resistors.now }
@@ -66,7 +66,7 @@ fn held_outflow(resistors: &[Resistor], around: &[u32], x: &[i128], node: u32) -
 }
 
 /// The sum of a node by held flows, as the half sees the network.
-pub fn node_sum(net: &Net, half: Half, x: &[i128], node: u32) -> i128
+pub(crate) fn node_sum(net: &Net, half: Half, x: &[i128], node: u32) -> i128
     requires built { IsBuilt net.now }
     requires node_in { node < net.now.nodes }
     requires size { length x.now ≡ net.now.nodes }

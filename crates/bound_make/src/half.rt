@@ -14,7 +14,7 @@ pub enum Half {
 }
 
 /// A voltage as the half sees it.
-pub fn seen_from(half: Half, volts: i128) -> i128
+pub(crate) fn seen_from(half: Half, volts: i128) -> i128
     requires { neg_ℤ (pos (2 * 10 ^ 37)) ≤ℤ volts }
     ensures { result ≡ seen_volts half volts }
 {
@@ -25,7 +25,7 @@ pub fn seen_from(half: Half, volts: i128) -> i128
 }
 
 /// The least current that is drawn out of a node, as the half sees the network.
-pub fn least_load(net: &Net, half: Half, node: u32) -> i128
+pub(crate) fn least_load(net: &Net, half: Half, node: u32) -> i128
     requires { node < net.now.nodes }
     ensures value { result ≡ low_load (seen half net.now) node }
     ensures within { IsInLimit (2 ^ 63) result }

@@ -67,7 +67,7 @@ fn turn_back(half: Half, x: &mut [i128])
 }
 
 /// Makes a list of a certificate out of its proposal, and counts the sweeps.
-pub fn make(net: &Net, half: Half, scale: Scale, x: &mut [i128], list: &mut WorkList) -> u64
+pub(crate) fn make(net: &Net, half: Half, scale: Scale, x: &mut [i128], list: &mut WorkList) -> u64
     requires built { IsBuilt net.now }
     requires size { length x.old ≡ net.now.nodes }
     requires room { HasRoom scale.bottom scale.top scale.width }

@@ -118,7 +118,7 @@ fn lower_listed(net: &Net, half: Half, x: &mut [i128], list: &mut WorkList)
 }
 
 /// Raises nodes until each sum is at least 1, and counts the sweeps in which one rose.
-pub fn raise_until_full(net: &Net, half: Half, x: &mut [i128], list: &mut WorkList) -> u64
+pub(crate) fn raise_until_full(net: &Net, half: Half, x: &mut [i128], list: &mut WorkList) -> u64
     requires built { IsBuilt net.now }
     requires raisable { IsRaisable (seen half net.now) x.old }
     ensures kept { IsRaising (seen half net.now) x.old x.new }
@@ -133,7 +133,7 @@ pub fn raise_until_full(net: &Net, half: Half, x: &mut [i128], list: &mut WorkLi
 }
 
 /// Lowers nodes until no sum passes 1 by too much, and counts the sweeps in which one fell.
-pub fn lower_until_trim(net: &Net, half: Half, x: &mut [i128], list: &mut WorkList) -> u64
+pub(crate) fn lower_until_trim(net: &Net, half: Half, x: &mut [i128], list: &mut WorkList) -> u64
     requires built { IsBuilt net.now }
     requires lowerable { IsLowerable (seen half net.now) x.old }
     ensures kept { IsLowering (seen half net.now) x.old x.new }

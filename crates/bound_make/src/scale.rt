@@ -83,7 +83,7 @@ fn reach(net: &Net) -> i128
 }
 
 /// The numbers within which the lists of a network are made, by its greatest level.
-pub fn scale_of(net: &Net, level: u32) -> Scale
+pub(crate) fn scale_of(net: &Net, level: u32) -> Scale
     requires { IsGreatestLevel net.now level }
     ensures room { HasRoom result.bottom result.top result.width }
     ensures exact { (s : RangeOf) × IsScaleOf net.now s × (s.bottom ≡ result.bottom) × (s.top ≡ result.top)

@@ -122,7 +122,7 @@ fn least_fall(resistors: &[Resistor], around: &[u32], x: &[i128], node: u32, uni
 }
 
 /// By how much a node has to rise at least until the flows that leave it are greater by a number.
-pub fn rise_step(net: &Net, x: &[i128], node: u32, missing: i128) -> i128
+pub(crate) fn rise_step(net: &Net, x: &[i128], node: u32, missing: i128) -> i128
     requires built { IsBuilt net.now }
     requires node_in { node < net.now.nodes }
     requires size { length x.now ≡ net.now.nodes }
@@ -140,7 +140,7 @@ pub fn rise_step(net: &Net, x: &[i128], node: u32, missing: i128) -> i128
 }
 
 /// By how much a node may fall with the flows that leave it falling by at most a number.
-pub fn fall_step(net: &Net, x: &[i128], node: u32, spare: i128) -> i128
+pub(crate) fn fall_step(net: &Net, x: &[i128], node: u32, spare: i128) -> i128
     requires built { IsBuilt net.now }
     requires node_in { node < net.now.nodes }
     requires size { length x.now ≡ net.now.nodes }

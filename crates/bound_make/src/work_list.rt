@@ -8,7 +8,7 @@ use grid_net::Net;
 ///
 /// The list only saves work, and nothing rests on what it holds: a node that it lacks is met by the next sweep.
 #[derive(Drop)]
-pub struct WorkList<'a> {
+pub(crate) struct WorkList<'a> {
     /// The numbers of the nodes, from the place of the first on. After the last cell comes the first one.
     ring: &'a mut [i128],
     /// For each node, 1 where it stands in the ring, and else 0.
@@ -52,7 +52,7 @@ fn node_in(ring: &[i128], place: usize) -> u32 {
 impl<'a> WorkList<'a> {
     /// A list without nodes, in cells that may hold anything: two for each node, one in the ring and one for its mark.
     /// Where there are no cells, the list takes no node.
-    pub fn new(cells: &'a mut [i128]) -> WorkList<'a> {
+    pub(crate) fn new(cells: &'a mut [i128]) -> WorkList<'a> {
         let nodes = cells.len() / 2;
         let (ring, marks) = cells.split_at_mut(nodes);
         marks.fill(0);
@@ -84,7 +84,7 @@ impl<'a> WorkList<'a> {
     }
 
     /// Puts a node at the end, and the nodes that share a resistor with it.
-    pub fn push_around(&mut self, net: &Net, node: u32)
+    pub(crate) fn push_around(&mut self, net: &Net, node: u32)
         requires built { IsBuilt net.now }
         requires node_in { node < net.now.nodes }
         ensures { length self.new.ring.now ≡ length self.old.ring.now }
@@ -98,7 +98,7 @@ impl<'a> WorkList<'a> {
     }
 
     /// Takes the node that came first. `None` where the list has none.
-    pub fn pop(&mut self) -> Option<u32>
+    pub(crate) fn pop(&mut self) -> Option<u32>
         ensures room { length self.new.ring.now ≡ length self.old.ring.now }
         ensures fewer { OnSome result (self.new.count < self.old.count) }
     {

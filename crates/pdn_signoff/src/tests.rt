@@ -438,7 +438,7 @@ fn earlier_texts_come_first(rt: HostRuntime) -> Result<(), Fail> {
     let table = [
         // A word of the netlist is refused, and a quantity passes its limit.
         (
-            b"R1 p n 1001\nV1 p 0 1\nI1 n 0 1x\n.end\n".as_slice(),
+            b"R1 p n 1001\nV1 p 0 1\nI1 n 0 1mil\n.end\n".as_slice(),
             CERTIFICATE,
             4,
             b"pdn: net:3:4: Number NotNumber\n".as_slice(),

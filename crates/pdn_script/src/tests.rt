@@ -2,7 +2,6 @@
 use super::*;
 use fixed_decimal::DecimalError;
 use outside::Place;
-use script_options::{Command, Need, ScriptOption, ValueForm, form_of, options_of};
 
 /// A domain and a grid, before what is tried. They are two lines.
 const HEAD: &[u8] =
@@ -330,18 +329,4 @@ fn empty_script(rt: HostRuntime) {
         Ok(script) => assert_eq!(rt; script.domains.as_slice().len(), 0),
         Err(error) => panic!(rt; "refused: {error:?}"),
     }
-}
-
-#[test]
-fn values_stand_after_options(rt: HostRuntime) {
-    let mut flags = 0;
-    for row in options_of(Command::AddPdnStripe) {
-        if form_of(row.option) == ValueForm::Nothing {
-            flags += 1;
-        }
-        if row.need == Need::RequiredOfStraps {
-            assert_eq!(rt; row.option, ScriptOption::Pitch);
-        }
-    }
-    assert_eq!(rt; flags, 3);
 }

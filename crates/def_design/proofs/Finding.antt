@@ -1,5 +1,5 @@
 -- What is found of a word that may stand once, and of what is missing.
-use Rattle.std.proofs.Common.{◌≡◌, ℕ, ◌+◌, Bool, true, false, List, [], ◌∷◌, length, Option, Some, None, refl, sym, ◌∙◌, ap, subst, arith}
+use Rattle.std.proofs.Common.{◌≡◌, ℕ, ◌+◌, Bool, true, List, [], ◌∷◌, length, Option, Some, None, refl, sym, ◌∙◌, ap, subst, arith}
 use Rattle.std.specs.Prelude.{is_some}
 use Rattle.def_design.specs.declared.error.DefKind.{DefKind}
 use Rattle.def_design.specs.declared.error.DefKind.TheVariants.{Twice}
@@ -13,7 +13,6 @@ use Rattle.def_design.specs.Record.{Stated, SaysName, SaysUnits, SaysDie}
 use Rattle.def_design.specs.Unit.{is_design, is_units, is_die}
 use Rattle.def_statements.specs.Standing.{section_of}
 use Rattle.lef_statements.specs.First.{first_with}
-use Rattle.reading.specs.declared.refusal.Found.{Found}
 use Rattle.reading.specs.Fault.{Finds, found_at}
 use Rattle.reading.specs.Grammar.{Shows}
 use Rattle.reading.specs.Laws.{show-at}

@@ -15,7 +15,7 @@ use Rattle.def_statements.specs.declared.sort.Sort.TheVariants as sorts
 use Rattle.def_statements.specs.Pattern.{pattern}
 use Rattle.def_statements.specs.Sort.{all_sorts, sort_of, sort_with}
 use Rattle.def_statements.specs.Standing.{section_of}
-use Rattle.def_statements.specs.Unit.{text_at, last_text, last_sort}
+use Rattle.def_statements.specs.Unit.{last_text, last_sort}
 use Rattle.reading.specs.declared.refusal.Found.{Found}
 use Rattle.reading.specs.declared.word.Form.{Form}
 use Rattle.reading.specs.declared.word.Form.TheVariants.{Bare, Quoted as QuotedForm, End as EndForm}

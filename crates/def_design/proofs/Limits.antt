@@ -1,5 +1,5 @@
 -- What a record keeps, by what its units say.
-use Rattle.std.proofs.Common.{◌≡◌, ℕ, ◌+◌, ◌^◌, ◌≤◌, ◌<◌, ◌⊎◌, ℤ, pos, ◌≤ℤ◌, ◌<ℤ◌, Bool, true, false, List, [], ◌∷◌, filter, length, map, All, Contains, Option, Some, None, inl, inr, refl, sym, ◌∙◌, ap, subst, arith}
+use Rattle.std.proofs.Common.{◌≡◌, ℕ, ◌+◌, ◌≤◌, ◌<◌, ℤ, pos, ◌≤ℤ◌, ◌<ℤ◌, Bool, true, false, List, [], ◌∷◌, filter, length, map, All, Option, Some, None, refl, sym, subst, arith}
 use Rattle.std.specs.Prelude.{unsigned_abs}
 use Rattle.std.specs.Int.{int_min, int_max}
 use Rattle.std.proofs.lemmas.Int.{ints, clamps}
@@ -21,7 +21,7 @@ use Rattle.def_design.specs.Fault.{head_name}
 use Rattle.def_design.specs.inside.Held.{HoldsSaid, components_of, regions_of}
 use Rattle.def_design.specs.Limits.{IsNear, IsLength, Keeps, RectKeeps, AreaKeeps, is_along, RowKeeps, PlaceKeeps, ComponentKeeps, BlockageKeeps, RegionKeeps, DesignKeeps}
 use Rattle.def_design.specs.Number.{place_of, IsNumber}
-use Rattle.def_design.specs.Record.{Stated, SaysPoint, between, SaysRect, SaysArea, SaysName, SaysUnits, SaysDie, SaysCount, SaysStep, SaysRow, SaysPlace, SaysComponent, After, each_after, blocks_wires, SaysSpacing, SaysBlockage, SaysRects, SaysRegion, IsDesign}
+use Rattle.def_design.specs.Record.{Stated, between, SaysRect, SaysArea, SaysName, SaysUnits, SaysDie, SaysCount, SaysStep, SaysRow, SaysPlace, SaysComponent, After, each_after, blocks_wires, SaysSpacing, SaysBlockage, SaysRects, SaysRegion, IsDesign}
 use Rattle.def_design.specs.Unit.{is_design, is_units, is_die, is_row, is_more, is_component, is_region, upright}
 use Rattle.def_design.proofs.Numbers.{Limited, Signed}
 use Rattle.def_statements.specs.declared.sort.Sort.{Sort}

@@ -1,5 +1,5 @@
 -- Numbers: those that are refused, and those that are read.
-use Rattle.std.proofs.Common.{◌≡◌, ◌↔◌, IsTrue, Bool, true, false, ◌≢◌, ◌≤◌, ◌<◌, ◌^◌, ◌⊎◌, ℕ, ℤ, pos, List, Result, Ok, Err, inl, inr, refl, sym, ◌∙◌, ap, subst, arith, to_z, of_z, length, Contains}
+use Rattle.std.proofs.Common.{◌≡◌, ◌↔◌, IsTrue, Bool, true, false, ◌≤◌, ◌<◌, ℕ, ℤ, pos, List, Result, Ok, Err, inl, inr, refl, sym, ◌∙◌, ap, subst, arith, to_z, of_z, length, Contains}
 use Rattle.std.specs.Prelude.{unsigned_abs}
 use Rattle.std.specs.Int.{w64}
 use Rattle.std.proofs.lemmas.Int.{to_z-of_z, fits_signed_from_abs}

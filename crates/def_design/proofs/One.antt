@@ -1,13 +1,11 @@
 -- The units of a text say one record.
 use Rattle.std.proofs.Common.{◌≡◌, ℕ, ◌+◌, ℤ, pos, Bool, true, false, List, [], ◌∷◌, filter, Option, Some, None, Result, Ok, Err, IfOk, IfErr, inl, refl, sym, ◌∙◌, ap}
-use Rattle.entry_list.specs.InTurn.{InTurn}
 use Rattle.entry_list.specs.Laws.{in-turn-one}
 use Rattle.geom_rect.specs.declared.direction.Orient.{Orient}
 use Rattle.geom_rect.specs.declared.rect.Rect.{Rect}
 use Rattle.def_design.specs.declared.error.DefKind.{DefKind}
 use Rattle.def_design.specs.declared.error.DefKind.TheVariants.{Want}
 use Rattle.def_design.specs.declared.held.Held.{Held}
-use Rattle.def_design.specs.declared.held.Said.{Said}
 use Rattle.def_design.specs.declared.number.Quantity.TheVariants.{Any, NotNegative, Positive, Microns}
 use Rattle.def_design.specs.declared.record.Blockage.{Blockage}
 use Rattle.def_design.specs.declared.record.Component.{Component}

@@ -1,12 +1,11 @@
 -- One more unit: what it says, and what it leaves.
-use Rattle.std.proofs.Common.{◌≡◌, ℕ, ℤ, Bool, true, false, ◌&&◌, not, cond, List, [], ◌∷◌, ◌++◌, map, filter, Contains, Option, Some, None, Result, Ok, Err, OnOk, refl, sym, ◌∙◌, ap, subst}
-use Rattle.std.specs.Prelude.{is_none, ◌||◌}
+use Rattle.std.proofs.Common.{◌≡◌, Bool, true, false, ◌&&◌, not, List, [], ◌∷◌, ◌++◌, filter, Contains, None, Result, Ok, Err, OnOk, refl, sym, ◌∙◌, ap, subst}
+use Rattle.std.specs.Prelude.{◌||◌}
 use Rattle.std.specs.declared.alloc.AllocError.{AllocError}
 use Rattle.std.specs.List.{list_any}
 use Rattle.std.proofs.lemmas.List.Folds.{list_any-append}
 use Rattle.entry_list.specs.InTurn.{InTurn}
 use Rattle.entry_list.specs.Laws.{turn-added, turn-kept}
-use Rattle.geom_rect.specs.declared.direction.Orient.{Orient}
 use Rattle.geom_rect.specs.declared.rect.Rect.{Rect}
 use Rattle.name_table.specs.Numbering.{TakesName}
 use Rattle.def_design.specs.declared.blockages.Blockages.{Blockages}
@@ -21,7 +20,7 @@ use Rattle.def_design.specs.inside.Held.{Leads, FirstSays, HoldsRows, HoldsCompo
 use Rattle.def_design.specs.Record.{Stated, SaysRect, SaysArea, SaysRow, SaysPlace, SaysComponent, After, each_after, entry_by, entry_of, blocks_wires, SaysSpacing, SaysBlockage, SaysRects, SaysRegion}
 use Rattle.def_design.specs.Unit.{is_row, is_component, is_placed, is_layer, is_spacing, excepts, is_rect, is_region, is_more}
 use Rattle.def_design.proofs.Turns.{named_head, named_stays, named_last}
-use Rattle.def_design.proofs.Firsts.{first_taken, first_there, first_other}
+use Rattle.def_design.proofs.Firsts.{first_other}
 use Rattle.def_design.proofs.Afters.{after_more, entry_more}
 use Rattle.def_statements.specs.Unit.{text_at}
 use Rattle.lef_statements.specs.First.{first_with}

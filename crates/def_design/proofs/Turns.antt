@@ -1,5 +1,5 @@
 -- Entries by their heads, after one more unit.
-use Rattle.std.proofs.Common.{◌≡◌, ℕ, Bool, true, false, List, [], ◌∷◌, ◌++◌, map, Contains, inl, inr, refl, sym, ◌∙◌, ap, subst}
+use Rattle.std.proofs.Common.{◌≡◌, Bool, true, false, List, [], ◌∷◌, ◌++◌, map, Contains, inl, inr, refl, sym, ◌∙◌, ap, subst}
 use Rattle.std.proofs.lemmas.List.{map_push}
 use Rattle.entry_list.specs.InTurn.{InTurn}
 use Rattle.entry_list.specs.Laws.{in-turn-more}

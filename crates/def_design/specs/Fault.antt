@@ -5,7 +5,7 @@ use Rattle.def_design.specs.declared.error.DefKind.TheVariants as kinds
 use Rattle.def_design.specs.declared.error.Item.{Item}
 use Rattle.def_design.specs.declared.error.Item.TheVariants as items
 use Rattle.def_design.specs.declared.number.Quantity.{Quantity}
-use Rattle.def_design.specs.declared.number.Quantity.TheVariants.{Any, NotNegative, Positive, Microns}
+use Rattle.def_design.specs.declared.number.Quantity.TheVariants.{Any, Positive, Microns}
 use Rattle.def_design.specs.declared.question.Question.{Question}
 use Rattle.def_design.specs.declared.question.Question.TheVariants as questions
 use Rattle.def_design.specs.Number.{place_of, IsNumber, IsSame}

@@ -1,7 +1,7 @@
 -- What every design that is read keeps: numbers are within their limits, rectangles are in order, the die and the
 -- regions have an area, rows lie along the x axis, and names stand once.
 use Rattle.name_table.specs.Numbering.{AreDistinct}
-use Rattle.std.specs.Prelude.{◌≡◌, ℕ, ◌^◌, ◌≤◌, ◌<◌, ℤ, pos, ◌≤ℤ◌, ◌<ℤ◌, unsigned_abs, Bool, true, false, List, length, map, All, Option, Some, None}
+use Rattle.std.specs.Prelude.{◌≡◌, ◌^◌, ◌≤◌, ◌<◌, ℤ, pos, ◌≤ℤ◌, ◌<ℤ◌, unsigned_abs, Bool, true, false, length, map, All, Option, Some, None}
 use Rattle.geom_rect.specs.declared.direction.Orient.{Orient}
 use Rattle.geom_rect.specs.declared.direction.Orient.TheVariants as orients
 use Rattle.geom_rect.specs.declared.rect.Rect.{Rect}

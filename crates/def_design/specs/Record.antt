@@ -12,7 +12,7 @@ use Rattle.def_design.specs.declared.record.Design.{Design}
 use Rattle.def_design.specs.declared.record.Fence.{Fence}
 use Rattle.def_design.specs.declared.record.Row.{Row}
 use Rattle.def_design.specs.Number.{IsNumber}
-use Rattle.def_design.specs.Unit.{is_design, is_units, is_die, is_row, is_component, is_placed, is_layer, is_spacing, excepts, is_rect, is_region, is_more, name_of, orient_of, upright}
+use Rattle.def_design.specs.Unit.{is_design, is_units, is_die, is_row, is_component, is_placed, is_layer, is_spacing, excepts, is_rect, is_region, is_more, orient_of, upright}
 use Rattle.def_statements.specs.declared.sort.Sort.TheVariants as sorts
 use Rattle.def_statements.specs.Sort.{the}
 use Rattle.def_statements.specs.Unit.{sort_at, text_at}

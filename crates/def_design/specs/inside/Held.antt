@@ -1,8 +1,7 @@
 -- What the reader holds after whole units.
-use Rattle.std.specs.Prelude.{◌≡◌, ℕ, Bool, List, [], ◌∷◌, ◌++◌, Option, filter}
+use Rattle.std.specs.Prelude.{◌≡◌, Bool, List, [], ◌∷◌, ◌++◌, Option, filter}
 use Rattle.std.specs.List.{list_any}
 use Rattle.entry_list.specs.InTurn.{InTurn}
-use Rattle.geom_rect.specs.declared.rect.Rect.{Rect}
 use Rattle.named_entries.specs.Named.{NamedList, HoldsNamed}
 use Rattle.def_design.specs.declared.blockages.Blockages.{Blockages}
 use Rattle.def_design.specs.declared.blockages.Open.{Open}

@@ -1,7 +1,5 @@
-use Rattle.std.proofs.Common.{◌↔◌, IsTrue, map, inl, inr, sym, ◌∙◌, subst}
-use Rattle.std.proofs.lemmas.Bool.{false≢true}
+use Rattle.std.proofs.Common.{◌↔◌, IsTrue, map, subst}
 use Rattle.def_design.specs.Number.{IsSame}
-use Rattle.def_design.specs.Fault.{NoArea}
 use Rattle.def_design.proofs.Numbers.{side_same, side_other}
 use Rattle.def_statements.specs.Unit.{text_at}
 use Rattle.reading.specs.Word.{token}

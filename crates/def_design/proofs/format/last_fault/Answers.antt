@@ -1,4 +1,4 @@
-use Rattle.std.proofs.Common.{◌-◌, length, map, sym, ◌∙◌, ap, subst}
+use Rattle.std.proofs.Common.{◌-◌, map, sym, ◌∙◌, ap, subst}
 use Rattle.std.proofs.lemmas.List.{length-map}
 use Rattle.def_design.specs.Fault.{NumberFault, ApartFault, OneFault, TurnFault, LastFault}
 use Rattle.def_design.specs.Record.{SaysUnits, SaysDie}

@@ -1,4 +1,4 @@
-use Rattle.std.proofs.Common.{map, Some, sym, ◌∙◌, ap, subst, to_z, of_z}
+use Rattle.std.proofs.Common.{map, sym, ◌∙◌, ap, subst, to_z, of_z}
 use Rattle.std.specs.Int.{w64}
 use Rattle.def_design.specs.declared.number.Quantity.TheVariants.{Any}
 use Rattle.def_design.specs.Record.{SaysCount, SaysStep}

@@ -1,6 +1,5 @@
-use Rattle.std.proofs.Common.{map, sym, ◌∙◌, subst}
+use Rattle.std.proofs.Common.{map, sym, ◌∙◌}
 use Rattle.def_design.specs.declared.number.Quantity.TheVariants.{NotNegative}
-use Rattle.def_design.specs.Number.{IsNumber}
 use Rattle.def_design.specs.Record.{SaysSpacing}
 use Rattle.def_design.specs.Unit.{is_spacing}
 use Rattle.def_design.proofs.Firsts.{leads_taken, leads_there, leads_other}

@@ -1,5 +1,5 @@
 //! The numbers of a script.
-ghost use Rattle.std.specs.Prelude.{◌≡◌, ◌↔◌, ◌≤◌, ◌^◌, IfOk, IfSome, Some};
+ghost use Rattle.std.specs.Prelude.{◌≡◌, ◌↔◌, ◌≤◌, ◌^◌, ℕ, IfOk, IfSome, Some};
 ghost use Rattle.entry_list.specs.InTurn.{InTurn};
 ghost use Rattle.number_place.specs.declared.place.Refused.{Refused as Reason};
 ghost use Rattle.script_options.specs.ListWords.{words_of};
@@ -97,7 +97,8 @@ pub(crate) fn number_refused(quantity: Quantity, text: &[u8]) -> Option<Refused>
 
 /// The number that the text stands for, if it may stand there.
 pub fn number_in(quantity: Quantity, text: &[u8]) -> Option<u64>
-    ensures { IfSome result (λ value. IsNumberIn quantity text.now value) }
+    ensures is { IfSome result (λ value. IsNumberIn quantity text.now value) }
+    ensures all { (value : ℕ) → IsNumberIn quantity text.now value → result ≡ Some value }
 {
     match small_number_at(place_of(quantity), text) {
         Ok(value) => {

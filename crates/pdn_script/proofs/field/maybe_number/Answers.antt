@@ -6,4 +6,4 @@ use Rattle.pdn_script.proofs.field.maybe_number.Goals as goal
 pub returns-in-Some-number_in : goal.returns-in-Some-number_in
 returns-in-Some-number_in c =
     subst (λ z. IsMaybeNumber c.args.quantity z (Some c.in-Some-number_in.number)) (sym c.in-Some.is)
-    (subst (λ z. IsNumberIn c.args.quantity z c.in-Some-number_in.number) c.bytes.ensures c.in-Some-number_in.ensures)
+    (subst (λ z. IsNumberIn c.args.quantity z c.in-Some-number_in.number) c.bytes.ensures c.in-Some-number_in.ensures.is)

@@ -12,6 +12,6 @@ loop-part-preserved c =
     let word = c.in-Some.part.word.now in (
       h.0 ++ word ∷ [],
       subst (λ (z : List ℕ). InTurn (IsNumberIn c.args.quantity) (h.0 ++ word ∷ []) z) (sym c.in_ok-push.ensures.items)
-          (in-turn-more (IsNumberIn c.args.quantity) h.0 c.loop-part.values.items word c.in-Some-number_in.value h.1 c.in-Some-number_in.ensures),
+          (in-turn-more (IsNumberIn c.args.quantity) h.0 c.loop-part.values.items word c.in-Some-number_in.value h.1 c.in-Some-number_in.ensures.is),
       one_more h.0 (words_of c.args.text.now) (words_of c.loop-part.rest.now) (words_of c.in-Some.part.rest.now) word c.in-Some.ensures.some h.2,
     )

@@ -409,166 +409,84 @@ fn generated_technology(rt: HostRuntime) -> Result<(), Fail> {
     Ok(())
 }
 
-/// What is passed over: between sections, first and last in a routing layer, first and last in a cut layer, first and
-/// last in a rule.
-#[derive(Clone, Copy)]
-struct Passed {
-    top: &'static [u8],
-    wire: (&'static [u8], &'static [u8]),
-    cut: (&'static [u8], &'static [u8]),
-    rule: (&'static [u8], &'static [u8]),
+/// Where something is passed over: between sections, first or last in a routing layer, in a cut layer, in a rule.
+#[derive(Clone, Copy, PartialEq, Eq)]
+enum Where {
+    Top,
+    WireFirst,
+    WireLast,
+    CutFirst,
+    CutLast,
+    RuleFirst,
+    RuleLast,
 }
 
-const NOTHING: Passed = Passed {
-    top: b"",
-    wire: (b"", b""),
-    cut: (b"", b""),
-    rule: (b"", b""),
-};
+use Where::{CutFirst, CutLast, RuleFirst, RuleLast, Top, WireFirst, WireLast};
+
+/// What is passed over, and where it stands.
+type Passed = (Where, &'static [u8]);
 
 const PASSED: [Passed; 33] = [
-    NOTHING,
-    Passed {
-        top: b"# LAYER m1\nVERSION 5.8 ;",
-        ..NOTHING
-    },
-    Passed {
-        top: b"FOO LAYER m1 END LIBRARY ;",
-        ..NOTHING
-    },
-    Passed {
-        top: b"\"LAYER\" m1 ;",
-        ..NOTHING
-    },
-    Passed {
-        top: b"UNITS DATABASE MICRONS 2000 ; FOO END ; END UNITS",
-        ..NOTHING
-    },
-    Passed {
-        top: b"SITE LAYER SIZE x ; END SITE END LAYER",
-        ..NOTHING
-    },
-    Passed {
-        top: b"MACRO m1 PIN END ; END m1",
-        ..NOTHING
-    },
-    Passed {
-        top: b"VIA LAYER DEFAULT END \"LAYER\" END LAYER",
-        ..NOTHING
-    },
-    Passed {
-        top: b"NONDEFAULTRULE n LAYER m1 END m1 END n",
-        ..NOTHING
-    },
-    Passed {
-        top: b"VIARULE q LAYER m1 ; END q",
-        ..NOTHING
-    },
-    Passed {
-        top: b"PROPERTYDEFINITIONS LAYER a STRING ; END PROPERTYDEFINITIONS",
-        ..NOTHING
-    },
-    Passed {
-        top: b"SPACING SAMENET a a 1 ; END SPACING",
-        ..NOTHING
-    },
-    Passed {
-        top: b"BEGINEXT \"a\" LAYER m1 ; END LIBRARY ENDEXT",
-        ..NOTHING
-    },
-    Passed {
-        top: b"LAYER m0 TYPE MASTERSLICE ; DIRECTION x ; END END LIBRARY END m0",
-        ..NOTHING
-    },
-    Passed {
-        top: b"LAYER END TYPE OVERLAP ; END END",
-        ..NOTHING
-    },
-    Passed {
-        wire: (b"PITCH 1 ; OFFSET 0 ; MINWIDTH x ;", b""),
-        ..NOTHING
-    },
-    Passed {
-        wire: (b"SPACING 0.3 RANGE 1 2 ; SPACING ;", b""),
-        ..NOTHING
-    },
-    Passed {
-        wire: (
-            b"RESISTANCE 1 ; RESISTANCE RPERSQ 1 2 ; RESISTANCE RPERSQ ;",
-            b"",
-        ),
-        ..NOTHING
-    },
-    Passed {
-        wire: (b"DCCURRENTDENSITY PEAK 1 ; DCCURRENTDENSITY ;", b""),
-        ..NOTHING
-    },
-    Passed {
-        wire: (b"PROPERTY a \"one ;\nEND m1\nLAYER\" b 1 ;", b""),
-        ..NOTHING
-    },
-    Passed {
-        wire: (b"TYPE CUT ;", b""),
-        ..NOTHING
-    },
-    Passed {
-        wire: (b"\"DIRECTION\" HORIZONTAL ; \"SPACING\" 9 ;", b""),
-        ..NOTHING
-    },
-    Passed {
-        wire: (b"CUTAREA 1 ; RECT x ; UNITS ; LAYER m2 ;", b""),
-        ..NOTHING
-    },
-    Passed {
-        wire: (
-            b"",
-            b"DIRECTION VERTICAL ; SPACING 9 ; RESISTANCE RPERSQ 9 ; DCCURRENTDENSITY AVERAGE 9 ;",
-        ),
-        ..NOTHING
-    },
-    Passed {
-        wire: (
-            b"",
-            b"DCCURRENTDENSITY AVERAGE WIDTH 1 2 ; TABLEENTRIES 1 2 ;",
-        ),
-        ..NOTHING
-    },
-    Passed {
-        cut: (b"SPACING 0.3 ; DIRECTION x ; WIDTH 1 ;", b""),
-        ..NOTHING
-    },
-    Passed {
-        cut: (b"RESISTANCE ; RESISTANCE 1 2 ; RESISTANCE RPERSQ 1 ;", b""),
-        ..NOTHING
-    },
-    Passed {
-        cut: (b"DCCURRENTDENSITY PEAK CUTAREA 1 ;", b""),
-        ..NOTHING
-    },
-    Passed {
-        cut: (
-            b"",
-            b"RESISTANCE 9 ; DCCURRENTDENSITY AVERAGE 9 ; TYPE ROUTING ;",
-        ),
-        ..NOTHING
-    },
-    Passed {
-        rule: (b"DEFAULT", b""),
-        ..NOTHING
-    },
-    Passed {
-        rule: (b"DEFAULT PROPERTY a 1 ; DEFAULT ;", b""),
-        ..NOTHING
-    },
-    Passed {
-        rule: (b"WIDTH x ; RECT ;", b""),
-        ..NOTHING
-    },
-    Passed {
-        rule: (b"", b"ENCLOSURE 9 9 ; OVERHANG x ; METALOVERHANG ;"),
-        ..NOTHING
-    },
+    (Top, b""),
+    (Top, b"# LAYER m1\nVERSION 5.8 ;"),
+    (Top, b"FOO LAYER m1 END LIBRARY ;"),
+    (Top, b"\"LAYER\" m1 ;"),
+    (Top, b"UNITS DATABASE MICRONS 2000 ; FOO END ; END UNITS"),
+    (Top, b"SITE LAYER SIZE x ; END SITE END LAYER"),
+    (Top, b"MACRO m1 PIN END ; END m1"),
+    (Top, b"VIA LAYER DEFAULT END \"LAYER\" END LAYER"),
+    (Top, b"NONDEFAULTRULE n LAYER m1 END m1 END n"),
+    (Top, b"VIARULE q LAYER m1 ; END q"),
+    (
+        Top,
+        b"PROPERTYDEFINITIONS LAYER a STRING ; END PROPERTYDEFINITIONS",
+    ),
+    (Top, b"SPACING SAMENET a a 1 ; END SPACING"),
+    (Top, b"BEGINEXT \"a\" LAYER m1 ; END LIBRARY ENDEXT"),
+    (
+        Top,
+        b"LAYER m0 TYPE MASTERSLICE ; DIRECTION x ; END END LIBRARY END m0",
+    ),
+    (Top, b"LAYER END TYPE OVERLAP ; END END"),
+    (WireFirst, b"PITCH 1 ; OFFSET 0 ; MINWIDTH x ;"),
+    (WireFirst, b"SPACING 0.3 RANGE 1 2 ; SPACING ;"),
+    (
+        WireFirst,
+        b"RESISTANCE 1 ; RESISTANCE RPERSQ 1 2 ; RESISTANCE RPERSQ ;",
+    ),
+    (WireFirst, b"DCCURRENTDENSITY PEAK 1 ; DCCURRENTDENSITY ;"),
+    (WireFirst, b"PROPERTY a \"one ;\nEND m1\nLAYER\" b 1 ;"),
+    (WireFirst, b"TYPE CUT ;"),
+    (WireFirst, b"\"DIRECTION\" HORIZONTAL ; \"SPACING\" 9 ;"),
+    (WireFirst, b"CUTAREA 1 ; RECT x ; UNITS ; LAYER m2 ;"),
+    (
+        WireLast,
+        b"DIRECTION VERTICAL ; SPACING 9 ; RESISTANCE RPERSQ 9 ; DCCURRENTDENSITY AVERAGE 9 ;",
+    ),
+    (
+        WireLast,
+        b"DCCURRENTDENSITY AVERAGE WIDTH 1 2 ; TABLEENTRIES 1 2 ;",
+    ),
+    (CutFirst, b"SPACING 0.3 ; DIRECTION x ; WIDTH 1 ;"),
+    (
+        CutFirst,
+        b"RESISTANCE ; RESISTANCE 1 2 ; RESISTANCE RPERSQ 1 ;",
+    ),
+    (CutFirst, b"DCCURRENTDENSITY PEAK CUTAREA 1 ;"),
+    (
+        CutLast,
+        b"RESISTANCE 9 ; DCCURRENTDENSITY AVERAGE 9 ; TYPE ROUTING ;",
+    ),
+    (RuleFirst, b"DEFAULT"),
+    (RuleFirst, b"DEFAULT PROPERTY a 1 ; DEFAULT ;"),
+    (RuleFirst, b"WIDTH x ; RECT ;"),
+    (RuleLast, b"ENCLOSURE 9 9 ; OVERHANG x ; METALOVERHANG ;"),
 ];
+
+/// What stands there.
+fn at(place: Where, passed: &Passed) -> &'static [u8] {
+    if place == passed.0 { passed.1 } else { b"" }
+}
 
 const PASSED_SAYS: Said = Said {
     order: &[LayerRef::Routing(0), LayerRef::Cut(0), LayerRef::Routing(1)],
@@ -605,20 +523,20 @@ const PASSED_SAYS: Said = Said {
 fn technology(alloc: Global, passed: &Passed) -> Result<Vec<u8>, AllocError> {
     let mut text = Vec::new(alloc);
     for piece in [
-        passed.top,
+        at(Top, passed),
         b" LAYER m1 TYPE ROUTING ; ",
-        passed.wire.0,
+        at(WireFirst, passed),
         b" DIRECTION HORIZONTAL ; SPACING 0.1 ; RESISTANCE RPERSQ 2 ; DCCURRENTDENSITY AVERAGE 3 ; ",
-        passed.wire.1,
+        at(WireLast, passed),
         b" END m1 LAYER v1 TYPE CUT ; ",
-        passed.cut.0,
+        at(CutFirst, passed),
         b" RESISTANCE 5 ; DCCURRENTDENSITY AVERAGE CUTAREA 1 2 ; TABLEENTRIES 7 0 ; ",
-        passed.cut.1,
+        at(CutLast, passed),
         b" END v1 LAYER m2 TYPE ROUTING ; DIRECTION VERTICAL ; END m2 VIARULE r GENERATE ",
-        passed.rule.0,
+        at(RuleFirst, passed),
         b" LAYER m2 ; ENCLOSURE 0.5 0.2 ; WIDTH 1 TO 3 ; LAYER v1 ; RECT 1 -1 0 1 ; SPACING 2 BY 2 ; RESISTANCE 4 ; ",
         b" LAYER m1 ; ENCLOSURE 0.1 0 ; ",
-        passed.rule.1,
+        at(RuleLast, passed),
         b" END r END LIBRARY \"",
     ] {
         text.extend_from_slice(piece)?;

@@ -1,6 +1,6 @@
 use crate::{
     Argv, Files, MemFiles, MemSink, Name, ReadError, Refusal, SoundFiles, SoundSink, StdFiles,
-    StdSink, WriteError, read_whole, send,
+    StdSink, WriteError, read_whole, send, write_whole,
 };
 use std::alloc::{AllocError, Global};
 use std::cell::RefCell;

@@ -11,3 +11,4 @@ pub mod Tables
 pub mod Stepping
 pub mod Loop
 pub mod One
+pub mod Taken

@@ -5,6 +5,7 @@ pub mod Reading
 pub mod Word
 pub mod Source
 pub mod Grammar
+pub mod Taken
 pub mod Reader
 pub mod Outcome
 pub mod Error

@@ -21,7 +21,7 @@ pub use engine::read_words;
 pub use error::{ErrorKind, ReadError};
 pub use grammar::Grammar;
 pub use items::{read_into, read_text, read_text_by_hand};
-pub use laws::texts_have_one_result;
+pub use laws::{texts_have_one_result, whole_units_are_read};
 pub use numbered::Numbered;
 pub use reader::{Reader, read_by_hand};
 pub use refusal::{Cause, Found, Refusal, found_at};

@@ -26,3 +26,7 @@ pub record IsLists (names : List (List ℕ)) (lines : List (List Token)) (lists 
   pub named : map name_on (rows (length names) lines) ≡ names
   pub high : InTurn SaysHigh (rows (length names) lines) lists.high
   pub low : InTurn SaysLow (rows (length names) lines) lists.low
+
+-- A high and a low list.
+abbrev pub lists_of : List ℤ → List ℤ → Lists
+lists_of high low = record { high = high; low = low }

@@ -4,7 +4,9 @@ ghost use Rattle.reading.specs.declared.error.ReadError.{ReadError as Error};
 ghost use Rattle.reading.specs.Error.{Agree};
 ghost use Rattle.fixed_decimal.specs.Printed.{printed};
 ghost use Rattle.certificate_file.specs.Format.{ReadsCertificate};
+ghost use Rattle.certificate_file.specs.Record.{lists_of};
 ghost use Rattle.certificate_file.specs.Voltage.{IsVoltage, limit};
+ghost use Rattle.certificate_file.specs.Written.{certificate_text, CanBeWritten};
 ghost use Rattle.certificate_file.specs.declared.lists.Lists.{Lists as Record};
 ghost use Rattle.certificate_file.specs.declared.error.CertKind.{CertKind as Kind};
 ghost use Rattle.certificate_file.specs.declared.error.CertKind.TheVariants.{Want};
@@ -12,7 +14,7 @@ ghost use Rattle.certificate_file.specs.declared.error.CertKind.TheVariants.{Wan
 use crate::format::CertificateFormat;
 use fixed_decimal::texts_have_one_answer;
 use outside::Name;
-use reading::texts_have_one_result;
+use reading::{texts_have_one_result, whole_units_are_read};
 use text_lex::one_split;
 
 /// A text has one pair of lists or one refusal for these names, and not both; want of memory aside.
@@ -29,3 +31,17 @@ pub fn texts_have_one_certificate(names: &[Name])
 pub fn written_voltages_read_back()
     ensures { (voltage : ℤ) → unsigned_abs voltage ≤ limit → IsVoltage (printed voltage 0) (Ok voltage) }
 {}
+
+/// A written certificate reads back: where each name is one word of a line, and each list has for each name a voltage
+/// within the limit, reading what is written of them gives these two lists, and nothing else; want of memory aside.
+pub fn written_certificates_read_back(names: &[Name])
+    ensures reads { (high low : List ℤ) → CanBeWritten names.now high low →
+        ReadsCertificate names.now (certificate_text names.now high low) (Ok (lists_of high low)) }
+    ensures alone { (high low : List ℤ) (result : Result Record (Error Kind)) → CanBeWritten names.now high low →
+        ReadsCertificate names.now (certificate_text names.now high low) result →
+        Agree Want (Ok (lists_of high low)) result }
+{
+    texts_have_one_answer();
+    texts_have_one_certificate(names);
+    whole_units_are_read(&CertificateFormat { names });
+}

@@ -20,7 +20,9 @@ mod voltage;
 mod written;
 
 pub use error::{CertError, CertKind};
-pub use laws::{texts_have_one_certificate, written_voltages_read_back};
+pub use laws::{
+    texts_have_one_certificate, written_certificates_read_back, written_voltages_read_back,
+};
 pub use lists::Lists;
 pub use read::read_certificate;
 pub use voltage::VOLTAGE_LIMIT;

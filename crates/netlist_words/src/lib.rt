@@ -5,12 +5,14 @@
 #![tactic(auto)]
 
 mod class;
+mod laws;
 mod letter;
 mod line;
 mod netlist;
 mod title;
 mod word;
 
+pub use laws::words_of_lines;
 pub use letter::{Letter, is_dc, is_mark, letter_of};
 pub use netlist::NetlistWords;
 

@@ -1,5 +1,6 @@
 -- Names moved to the front of their list, one group at a time.
-use Rattle.std.proofs.Common.{◌≡◌, ℕ, ◌+◌, ◌<◌, ◌≤◌, inl, inr, arith, refl, sym, ap, ◌∙◌, List, [], length, get_or, take, map, All}
+use Rattle.std.proofs.Common.{◌≡◌, ℕ, zero, suc, ◌+◌, ◌<◌, ◌≤◌, inl, inr, arith, refl, sym, ap, ◌∙◌, List, [], ◌∷◌, length, get_or, take, map, All}
+use Rattle.std.specs.Prelude.{Contains}
 use Rattle.std.specs.List.{swap}
 use Rattle.std.specs.List.Sorted.{IsStrictlyIncreasing}
 use Rattle.std.proofs.lemmas.Bool.{cases_lt}
@@ -61,3 +62,11 @@ all_kept names now firsts h few =
     (λ g l. let m : g < length firsts = omega (arith, l, size) in
     get_or-take (length firsts) now g [] m ∙ h.kept g m
     ∙ sym (get_or-map (λ (node : ℕ). get_or names node []) firsts g 0 [] m))
+
+no_default : (names : List (List ℕ)) (k : ℕ) (d e : List ℕ) → k < length names → get_or names k d ≡ get_or names k e
+no_default [] k d e l = absurd (omega arith)
+no_default (x ∷ names) zero d e l = refl
+no_default (x ∷ names) (suc k) d e l = no_default names k d e (omega arith)
+
+pub one_of_them : (names : List (List ℕ)) (k : ℕ) → k < length names → Contains names (get_or names k [])
+one_of_them names k l = (k, l, no_default names k (get_or names k []) [] l)

@@ -7,3 +7,4 @@ pub mod Ranges
 pub mod Taking
 pub mod Reading
 pub mod Numbers
+pub mod NameLemmas

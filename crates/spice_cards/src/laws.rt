@@ -1,11 +1,16 @@
-//! Laws of netlists, on a function that does nothing.
-ghost use Rattle.std.specs.Prelude.{◌≡◌, ℕ, List};
+//! Laws of netlists, on functions that do nothing.
+ghost use Rattle.std.specs.Prelude.{◌≡◌, ℕ, true, List, [], Contains, flat_map};
 ghost use Rattle.reading.specs.declared.error.ReadError.{ReadError as Error};
 ghost use Rattle.reading.specs.Word.{Token};
 ghost use Rattle.spice_cards.specs.declared.error.CardsKind.{CardsKind as Kind};
+ghost use Rattle.spice_cards.specs.Card.{cards_of};
 ghost use Rattle.spice_cards.specs.Format.{IsNetlist, IsRefusedNetlist};
+ghost use Rattle.spice_cards.specs.Record.{nodes_of};
+ghost use Rattle.text_lex.specs.Piece.{IsBare};
+ghost use Rattle.text_lex.specs.declared.word.Mode.TheVariants.{Lines};
 
 use crate::format::CardsFormat;
+use netlist_words::words_of_lines;
 use reading::texts_have_one_result;
 
 /// A text is one list of units or has one refusal, and not both.
@@ -16,4 +21,12 @@ pub fn netlists_have_one_reading()
         IsRefusedNetlist text error → ⊥ }
 {
     texts_have_one_result(&CardsFormat);
+}
+
+/// The name of each node of a netlist's cards is one word of a line.
+pub fn node_names_are_words()
+    ensures { (text : List ℕ) (units : List (List Token)) → IsNetlist text units →
+        (name : List ℕ) → Contains (flat_map nodes_of (cards_of units)) name → IsBare Lines true name [] }
+{
+    words_of_lines();
 }

@@ -1,5 +1,7 @@
-//! The law of the definition, on a function that does nothing.
-ghost use Rattle.std.specs.Prelude.{◌≡◌, ◌≢◌, ℕ, List, Ok, Err};
+//! Laws of the definition, on functions that do nothing.
+ghost use Rattle.std.specs.Prelude.{◌≡◌, ◌≢◌, ℕ, true, List, [], All, Ok, Err};
+ghost use Rattle.text_lex.specs.Piece.{IsBare};
+ghost use Rattle.text_lex.specs.declared.word.Mode.TheVariants.{Lines};
 ghost use Rattle.spice_grid.specs.declared.error.SpiceError.{SpiceError as Error};
 ghost use Rattle.spice_grid.specs.declared.error.SpiceKind.TheVariants.{Want};
 ghost use Rattle.spice_grid.specs.declared.named.Named.{Named as Record};
@@ -7,7 +9,7 @@ ghost use Rattle.spice_grid.specs.Netlist.{ReadsNetlist, IsAtWord};
 
 use name_table::one_order;
 use number_place::texts_have_one_number;
-use spice_cards::netlists_have_one_reading;
+use spice_cards::{netlists_have_one_reading, node_names_are_words};
 
 /// A text has one record or one refusal, and not both; want of memory aside. Where the network of the whole text is
 /// refused, nothing is said of a place.
@@ -23,4 +25,12 @@ pub fn texts_have_one_netlist()
     netlists_have_one_reading();
     texts_have_one_number();
     one_order();
+}
+
+/// Each name of a node of a netlist is one word of a line: neither white space nor the end of a line stands in it.
+pub fn names_are_words()
+    ensures { (text : List ℕ) (named : Record) → ReadsNetlist text (Ok named) →
+        All (λ name. IsBare Lines true name []) named.names }
+{
+    node_names_are_words();
 }

@@ -14,7 +14,7 @@ mod place;
 mod written;
 
 pub use error::{NetRefusal, SpiceError, SpiceKind};
-pub use laws::texts_have_one_netlist;
+pub use laws::{names_are_words, texts_have_one_netlist};
 pub use named::Named;
 pub use netlist::read_netlist;
 pub use written::netlist_text;

@@ -1,5 +1,5 @@
 -- The words of a written certificate, line by line.
-use Rattle.std.proofs.Common.{◌≡◌, ℕ, zero, suc, ◌+◌, ◌<◌, ◌≤◌, ◌==◌, ◌&&◌, ◌||◌, not, Bool, true, false, if◌then◌else◌, ℤ, List, [], ◌∷◌, ◌++◌, length, map, codes, Ok, refl, sym, ◌∙◌, ap, subst, append_assoc, arith}
+use Rattle.std.proofs.Common.{◌≡◌, ℕ, ◌<◌, ◌≤◌, ◌==◌, ◌&&◌, ◌||◌, not, Bool, true, false, if◌then◌else◌, ℤ, List, [], ◌∷◌, ◌++◌, length, map, codes, Ok, refl, sym, ◌∙◌, ap, subst, append_assoc, arith}
 use Rattle.std.specs.Prelude.{IsTrue, None, slice_index}
 use Rattle.std.specs.List.{list_all}
 use Rattle.std.specs.Str.{bytes_eq}
@@ -16,7 +16,6 @@ use Rattle.reading.specs.declared.word.Form.TheVariants.{Bare, Break}
 use Rattle.reading.specs.Pattern.{joined}
 use Rattle.reading.specs.Word.{Token, word_of}
 use Rattle.fixed_decimal.specs.Printed.{printed}
-use Rattle.certificate_file.specs.declared.sort.Sort.{Sort}
 use Rattle.certificate_file.specs.declared.sort.Sort.TheVariants.{Pdn, Certificate, Version, Last, Mark, Other}
 use Rattle.certificate_file.specs.Sort.{sort_of_text}
 use Rattle.certificate_file.specs.Rule.{is_name, is_number}

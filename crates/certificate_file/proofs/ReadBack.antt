@@ -1,5 +1,5 @@
 -- A written certificate reads back.
-use Rattle.std.proofs.Common.{◌≡◌, ◌≢◌, ℕ, zero, suc, ◌+◌, ◌-◌, ◌<◌, ◌≤◌, Bool, true, false, ℤ, List, [], ◌∷◌, ◌++◌, length, map, take, codes, Ok, Err, refl, sym, ◌∙◌, ap, subst, append_assoc, arith, length-append}
+use Rattle.std.proofs.Common.{◌≡◌, ℕ, suc, ◌+◌, ◌-◌, ◌<◌, ◌≤◌, Bool, true, false, ℤ, List, [], ◌∷◌, ◌++◌, length, map, take, codes, Ok, Err, refl, sym, ◌∙◌, ap, subst, append_assoc, arith, length-append}
 use Rattle.std.specs.Prelude.{None, All, slice_index_or, unsigned_abs}
 use Rattle.std.proofs.lemmas.List.{append-nil}
 use Rattle.entry_list.specs.InTurn.{InTurn}
@@ -7,22 +7,20 @@ use Rattle.outside.specs.declared.place.Place.{Place}
 use Rattle.text_lex.specs.declared.word.Mode.TheVariants.{Lines}
 use Rattle.text_lex.specs.declared.word.Form.TheVariants as split
 use Rattle.text_lex.specs.Piece.{Piece, Item, IsBare}
-use Rattle.text_lex.specs.Split.{Split, IsMadeOf, IsSplit, place_after, words_from, last_from, first_place, split_from}
-use Rattle.reading.specs.declared.refusal.Found.{Found}
-use Rattle.reading.specs.Pattern.{Pattern, One, Then, Matches, joined}
+use Rattle.text_lex.specs.Split.{Split, IsMadeOf, place_after, words_from, last_from, first_place, split_from}
+use Rattle.reading.specs.Pattern.{One, Then, Matches, joined}
 use Rattle.reading.specs.Reading.{Text}
 use Rattle.reading.specs.Grammar.{IsTaken}
 use Rattle.reading.specs.Taken.{AreTaken}
 use Rattle.reading.specs.Outcome.{IsReadAs}
 use Rattle.reading.specs.Word.{Token, word_of, end_at, seen_text}
 use Rattle.fixed_decimal.specs.Printed.{printed}
-use Rattle.certificate_file.specs.declared.error.CertKind.{CertKind}
-use Rattle.certificate_file.specs.declared.section.Section.TheVariants.{Head, Row, Close, Ended}
+use Rattle.certificate_file.specs.declared.section.Section.TheVariants.{Close, Ended}
 use Rattle.certificate_file.specs.declared.sort.Sort.{Sort}
-use Rattle.certificate_file.specs.declared.sort.Sort.TheVariants.{Pdn, Certificate, Version, Last, LineEnd}
+use Rattle.certificate_file.specs.declared.sort.Sort.TheVariants.{Pdn, Certificate, Version, LineEnd}
 use Rattle.certificate_file.specs.Sort.{the, sort_of}
 use Rattle.certificate_file.specs.Section.{section_after}
-use Rattle.certificate_file.specs.Rule.{is_name, is_number, is_end, pattern, rows}
+use Rattle.certificate_file.specs.Rule.{is_name, is_number, pattern, rows}
 use Rattle.certificate_file.specs.Fault.{IsRow, name_of_row}
 use Rattle.certificate_file.specs.Voltage.{IsVoltage, limit}
 use Rattle.certificate_file.specs.Record.{name_on, SaysHigh, SaysLow, IsLists, lists_of}
@@ -31,7 +29,7 @@ use Rattle.certificate_file.specs.Written.{rows_text, certificate_text, CanBeWri
 use Rattle.certificate_file.proofs.Law.{HasOne, one_voltage, not_both}
 use Rattle.certificate_file.proofs.Rows.{Stands, at_head, at_row, at_close, at_ended, stands, row_section}
 use Rattle.certificate_file.proofs.Voltages.{printed_is}
-use Rattle.certificate_file.proofs.Lines.{IsWord, AreRows, line, line_bytes, line_made, bare_word, number_sort, name_sort, voltage_word, word_at, break_at, break_place, after_line, line_unit, rows_pieces, rows_made, rows_units, rows_end, rows_words, rows_last}
+use Rattle.certificate_file.proofs.Lines.{IsWord, AreRows, line, line_made, bare_word, number_sort, name_sort, voltage_word, word_at, break_at, after_line, line_unit, rows_pieces, rows_made, rows_units, rows_end, rows_words, rows_last}
 
 -- ## whole units without a fault
 

@@ -1,6 +1,8 @@
 use super::*;
 use grid_net::{Load, Net, Pad, Resistor, Solver};
 use level_region::Region;
+use std::alloc::Global;
+use std::test::Fail;
 
 const VOLT: i128 = 1_000_000_000_000_000_000_000_000;
 
@@ -47,4 +49,74 @@ fn proposals_on_one_resistor(rt: HostRuntime) {
         w[0],
         w[1]
     );
+}
+
+// A network of nodes alone.
+fn bare(alloc: Global, nodes: u32) -> Result<Net, Fail> {
+    let net = Net::build(
+        alloc,
+        nodes,
+        Vec::new(alloc),
+        Vec::new(alloc),
+        Vec::new(alloc),
+    )?;
+    Ok(net)
+}
+
+// Two pads, and a resistor between them.
+fn two_pads(alloc: Global) -> Result<Net, Fail> {
+    let resistors = vec![in alloc;
+        Resistor {
+            a: 0,
+            b: 1,
+            ohms: 1
+        },
+    ]?;
+    let pads = vec![in alloc;
+        Pad {
+            node: 0,
+            volts: VOLT
+        },
+        Pad { node: 1, volts: 7 },
+    ]?;
+    Ok(Net::build(alloc, 2, resistors, pads, Vec::new(alloc))?)
+}
+
+#[test]
+fn a_node_alone(rt: HostRuntime) -> Result<(), Fail> {
+    let net = bare(rt.alloc(), 1)?;
+    let mut work = Region::new(rt.alloc(), 200)?;
+    let mut x: [i128; 1] = [3];
+    let mut w: [i128; 1] = [4];
+    if net.nodes() == 1 {
+        Multilevel::new().propose(&net, &mut work, &mut x, &mut w);
+    }
+    assert!(rt; x == [0] && w == [0], "{} {}", x[0], w[0]);
+    Ok(())
+}
+
+#[test]
+fn pads_keep_their_voltages(rt: HostRuntime) -> Result<(), Fail> {
+    let net = two_pads(rt.alloc())?;
+    let mut work = Region::new(rt.alloc(), 200)?;
+    let mut x: [i128; 2] = [5, 6];
+    let mut w: [i128; 2] = [5, 6];
+    if net.nodes() == 2 {
+        Multilevel::new().propose(&net, &mut work, &mut x, &mut w);
+    }
+    assert!(rt; x == [VOLT, 7] && w == [VOLT, 7], "{} {}", x[1], w[1]);
+    Ok(())
+}
+
+#[test]
+fn region_of_no_cell(rt: HostRuntime) -> Result<(), Fail> {
+    let net = two_pads(rt.alloc())?;
+    let mut work = Region::new(rt.alloc(), 0)?;
+    let mut x: [i128; 2] = [5, 6];
+    let mut w: [i128; 2] = [5, 6];
+    if net.nodes() == 2 {
+        Multilevel::new().propose(&net, &mut work, &mut x, &mut w);
+    }
+    assert!(rt; x == [VOLT, VOLT] && w == [VOLT, VOLT], "{} {}", x[1], w[1]);
+    Ok(())
 }

@@ -1,0 +1,262 @@
+//! Refinement: what each sum of the certificate lacks of the middle of its window, by the certificate's own floors and
+//! ceilings, is solved for and added, until each sum lies in its window.
+
+ghost use Rattle.std.specs.Prelude.{◌<◌};
+
+use crate::assembly::{Lists, ohms_bits};
+use grid_net::Net;
+use solve_levels::{Effort, Stack, Wides, Words, shifted, wide_bits_of};
+
+/// Which of the two lists is made.
+#[derive(Clone, Copy, PartialEq, Eq)]
+pub enum Half {
+    High,
+    Low,
+}
+
+/// Where the residuals of a list come from: its flows, or, where both load ends are those of the other list, what that
+/// list left, which is known.
+#[derive(Clone, Copy, PartialEq, Eq)]
+enum Source {
+    Flows,
+    Known,
+}
+
+/// The most rounds of one list.
+const ROUNDS: u32 = 12;
+
+/// The most steps of gradients in one round.
+const STEPS: u32 = 200;
+
+/// The currents at the nodes: the sum of their magnitudes, the greatest one, and whether each lies in its window.
+#[derive(Clone, Copy)]
+struct Lack {
+    total: u128,
+    most: u128,
+    is_none: bool,
+}
+
+/// What one round leaves at most of the currents before it: a part as a fraction.
+#[derive(Clone, Copy)]
+pub struct Gain {
+    left: u128,
+    before: u128,
+}
+
+/// What is refined, and with what.
+#[derive(Drop)]
+pub struct Refining<'a> {
+    pub net: &'a Net,
+    pub stack: &'a Stack,
+    pub lists: Lists,
+    /// The currents and the voltages of the first level.
+    pub currents: Wides,
+    pub volts: Wides,
+    pub half: Half,
+}
+
+/// How many resistors stand at a node, and 1.
+fn degree(net: &Net, node: u32) -> i128
+    requires { node < net.now.nodes }
+{
+    (net.around(node).len() as i128).saturating_add(1)
+}
+
+/// The middle of the window of a node's sum, less what is drawn there.
+fn target(net: &Net, half: Half, source: Source, node: u32) -> i128
+    requires { node < net.now.nodes }
+{
+    let window = degree(net, node).saturating_mul(32).saturating_add(1);
+    let (least, most) = net.load(node);
+    let (least, most) = (least as i128, most as i128);
+    match (source, half) {
+        (Source::Known, _) => window
+            .saturating_mul(-2)
+            .saturating_sub(most.saturating_sub(least)),
+        (Source::Flows, Half::High) => window.saturating_sub(least),
+        (Source::Flows, Half::Low) => window.saturating_neg().saturating_sub(most),
+    }
+}
+
+/// The flow of a difference over a resistance, rounded down, within 1: by the inverse, and by division where the flow has
+/// more bits than the inverse is good for.
+#[inline(always)]
+fn flow(difference: i128, ohms: i128, inverse: u64) -> i128 {
+    let bits = ohms_bits(ohms);
+    let down = wide_bits_of(difference.unsigned_abs())
+        .wrapping_sub(62)
+        .max(0);
+    if down.wrapping_sub(bits) > -4 {
+        return difference.checked_div_euclid(ohms).unwrap_or(0);
+    }
+    let product = shifted(difference, down).wrapping_mul(inverse as i128);
+    shifted(product, bits.wrapping_add(62).wrapping_sub(down))
+}
+
+/// Units of 2^-scale in which all currents together have 92 bits, and a current of 1 fA at most 40.
+fn scale_for(lack: Lack) -> i64 {
+    92i64.wrapping_sub(wide_bits_of(lack.total)).min(40)
+}
+
+/// How far a solve goes: to 48 fA, or to 27 bits below the greatest current.
+fn effort_for(lack: Lack, scale: i64) -> Effort {
+    let most = (lack.most >> 27).max(48).cast_signed();
+    let goal = shifted(most, scale.wrapping_neg()).unsigned_abs().max(1);
+    Effort { steps: STEPS, goal }
+}
+
+impl Refining<'_> {
+    // Puts the targets of all nodes into the currents.
+    fn put_targets(&self, words: &mut Words, source: Source) {
+        for node in 0..self.net.nodes() {
+            let current = target(self.net, self.half, source, node);
+            self.currents.put(words, node, current);
+        }
+    }
+
+    // Takes the flows of a list off the currents.
+    fn take_flows(&self, words: &mut Words, x: &[i128]) {
+        let mut k: u32 = 0;
+        for resistor in self.net.resistors() {
+            let (a, b) = (resistor.a, resistor.b);
+            let at_a = x.get(a as usize).copied().unwrap_or(0);
+            let at_b = x.get(b as usize).copied().unwrap_or(0);
+            if at_a != at_b {
+                let inverse = self.lists.inverses.at(words, k);
+                let flow = flow(at_a.wrapping_sub(at_b), resistor.ohms, inverse);
+                let (from_a, from_b) = match self.half {
+                    Half::High => (flow, (-1i128).wrapping_sub(flow)),
+                    Half::Low => (flow.wrapping_add(1), flow.wrapping_neg()),
+                };
+                self.currents.add(words, a, from_a.wrapping_neg());
+                self.currents.add(words, b, from_b.wrapping_neg());
+            }
+            k = k.wrapping_add(1);
+        }
+    }
+
+    // What each sum lacks of the middle of its window, as the currents.
+    fn find_lack(&self, words: &mut Words, x: &[i128], source: Source) {
+        self.put_targets(words, source);
+        if source == Source::Flows {
+            self.take_flows(words, x);
+        }
+    }
+
+    // How much the sums lack.
+    fn measure(&self, words: &Words) -> Lack {
+        let mut lack = Lack {
+            total: 0,
+            most: 0,
+            is_none: true,
+        };
+        for node in 0..self.net.nodes() {
+            if self.net.pad(node).is_none() {
+                let size = self.currents.at(words, node).unsigned_abs();
+                let window = degree(self.net, node).unsigned_abs().saturating_mul(31);
+                lack.is_none = lack.is_none && size <= window;
+                lack.total = lack.total.saturating_add(size);
+                lack.most = lack.most.max(size);
+            }
+        }
+        lack
+    }
+
+    // Brings the currents to units of 2^-scale; those at pads become 0.
+    fn scale(&self, words: &mut Words, scale: i64) {
+        for node in 0..self.net.nodes() {
+            let current = if self.net.pad(node).is_some() {
+                0
+            } else {
+                shifted(self.currents.at(words, node), scale.wrapping_neg())
+            };
+            self.currents.put(words, node, current);
+        }
+    }
+
+    // Solves for the currents, in units in which no voltage passes 122 bits. Answers the scale of the voltages.
+    fn solve(&self, words: &mut Words, x: &[i128], source: Source, lack: Lack) -> i64 {
+        let mut scale = scale_for(lack);
+        for attempt in 0..5 {
+            if attempt > 0 {
+                // The solve before has used up the currents.
+                scale = scale.wrapping_sub(24);
+                self.find_lack(words, x, source);
+            }
+            self.scale(words, scale);
+            let solved = self.stack.solve(words, effort_for(lack, scale));
+            if solved.used >> 122 == 0 {
+                break;
+            }
+        }
+        scale
+    }
+
+    // Adds the voltages to a list.
+    fn add(&self, words: &Words, x: &mut [i128], scale: i64) {
+        let mut node: u32 = 0;
+        for entry in x.iter_mut() {
+            if node < self.net.nodes() && self.net.pad(node).is_none() {
+                let volts = shifted(self.volts.at(words, node), scale);
+                *entry = entry.wrapping_add(volts);
+            }
+            node = node.wrapping_add(1);
+        }
+    }
+
+    /// Corrects a list round by round, until each sum lies in its window, a round gains little, or what a round leaves is
+    /// known to be nothing. Answers that, if the list is good; `near` is that of the other list, from which this one
+    /// starts with known residuals.
+    pub fn refine(&self, words: &mut Words, x: &mut [i128], near: Option<Gain>) -> Option<Gain> {
+        let mut gain = near;
+        let mut before: u128 = 0;
+        for round in 0..ROUNDS {
+            let source = if near.is_some() && round == 0 {
+                Source::Known
+            } else {
+                Source::Flows
+            };
+            self.find_lack(words, x, source);
+            let lack = self.measure(words);
+            if lack.is_none {
+                return gain;
+            }
+            if before > 0 {
+                if round > 2 && lack.total > before / 2 {
+                    return None;
+                }
+                gain = Some(worse(gain, lack.most, before));
+            }
+            before = lack.total;
+            let scale = self.solve(words, x, source, lack);
+            self.add(words, x, scale);
+            if leaves_nothing(gain, lack.total) {
+                return gain;
+            }
+        }
+        None
+    }
+}
+
+/// The lesser gain: that so far, or that of a round that left so much of what was before it.
+fn worse(gain: Option<Gain>, left: u128, before: u128) -> Gain {
+    let this = Gain { left, before };
+    match gain {
+        None => this,
+        Some(known) => {
+            let is_worse = left.saturating_mul(known.before) > known.left.saturating_mul(before);
+            if is_worse { this } else { known }
+        }
+    }
+}
+
+/// Whether a round leaves less than 4 fA of so much, by what is known.
+fn leaves_nothing(gain: Option<Gain>, total: u128) -> bool {
+    match gain {
+        None => false,
+        Some(gain) => {
+            let left = total.saturating_mul(gain.left);
+            left.checked_div(gain.before).unwrap_or(left) < 4
+        }
+    }
+}

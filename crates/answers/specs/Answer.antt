@@ -10,7 +10,7 @@ use Rattle.grid_net.specs.declared.error.Quantity.TheVariants.{Nodes, Resistors,
 use Rattle.answers.specs.declared.kind.TextKind.{TextKind}
 use Rattle.answers.specs.declared.kind.TextKind.TheVariants.{Syntax, OutOfProfileCard, FloatingSource, Number, OutOfRange, WrongNode}
 use Rattle.answers.specs.declared.answer.Answer.{Answer}
-use Rattle.answers.specs.declared.answer.Answer.TheVariants.{Usage, Want, ReadFault, TooLong, Refused, Range, PadConflict, Certified, NotCertified}
+use Rattle.answers.specs.declared.answer.Answer.TheVariants.{Usage, Want, ReadFault, WriteFault, TooLong, Refused, Range, PadConflict, Unsupplied, Solved, Certified, NotCertified}
 
 -- The word for the test of a certificate that fails.
 abbrev pub side_word : Side → List ℕ
@@ -45,10 +45,13 @@ abbrev pub status_of : Answer → ℕ
 status_of Usage = 2
 status_of Want = 10
 status_of (ReadFault file) = 3
+status_of (WriteFault file) = 3
 status_of (TooLong file) = 4
 status_of (Refused file place kind) = 4
 status_of (Range quantity at number) = 6
 status_of (PadConflict node first second) = 6
+status_of (Unsupplied node) = 7
+status_of (Solved nodes resistors sweeps) = 0
 status_of (Certified nodes) = 0
 status_of (NotCertified node side found) = 9
 
@@ -57,6 +60,7 @@ abbrev pub words_of : Answer → List ℕ
 words_of Usage = codes "pdn: Usage"
 words_of Want = codes "pdn: Want"
 words_of (ReadFault file) = codes "pdn: ReadFault " ++ file
+words_of (WriteFault file) = codes "pdn: WriteFault " ++ file
 words_of (TooLong file) = codes "pdn: TooLong " ++ file
 words_of (Refused file place kind) =
     codes "pdn: " ++ file ++ codes ":" ++ decimal place.line ++ codes ":" ++ decimal place.word ++ codes ": "
@@ -65,6 +69,10 @@ words_of (Range quantity at number) =
     codes "pdn: Range " ++ quantity_word quantity ++ codes " " ++ decimal at ++ codes " " ++ signed_decimal number
 words_of (PadConflict node first second) =
     codes "pdn: PadConflict " ++ node ++ codes " " ++ printed first 24 ++ codes " " ++ printed second 24
+words_of (Unsupplied node) = codes "pdn: Unsupplied " ++ node
+words_of (Solved nodes resistors sweeps) =
+    codes "solved " ++ decimal nodes ++ codes " nodes " ++ decimal resistors ++ codes " resistors " ++ decimal sweeps
+    ++ codes " sweeps"
 words_of (Certified nodes) = codes "certified " ++ decimal nodes ++ codes " nodes"
 words_of (NotCertified node side found) =
     codes "pdn: NotCertified " ++ node ++ codes " " ++ side_word side ++ codes " " ++ signed_decimal found

@@ -5,6 +5,7 @@ ghost use Rattle.answers.specs.Answer.{status_of, line_of};
 use crate::kind::TextKind;
 use crate::line::{
     certified_line, conflict_line, file_line, not_certified_line, range_line, refused_line,
+    solved_line,
 };
 use bound_check::Side;
 use grid_net::Quantity;
@@ -20,6 +21,8 @@ pub enum Answer {
     Want,
     /// The file could not be read.
     ReadFault(Name),
+    /// The file could not be written.
+    WriteFault(Name),
     /// The file has more bytes than an input may have.
     TooLong(Name),
     /// The text of the file is refused at the word of this place.
@@ -41,6 +44,14 @@ pub enum Answer {
         first: i128,
         second: i128,
     },
+    /// No chain of resistors joins the node of this name to a pad: the first such node.
+    Unsupplied(Name),
+    /// The network, of this many nodes and resistors, was certified in so many sweeps.
+    Solved {
+        nodes: u32,
+        resistors: u32,
+        sweeps: u64,
+    },
     /// The test of the certificate holds, on a network of this many nodes.
     Certified(u32),
     /// The first failing test of the certificate: the node's name, the side, and the number found there (yV for a
@@ -54,11 +65,12 @@ impl Answer {
         ensures { result ≡ status_of self.now }
     {
         match self {
-            Answer::Certified(_) => 0,
+            Answer::Certified(_) | Answer::Solved { .. } => 0,
             Answer::Usage => 2,
-            Answer::ReadFault(_) => 3,
+            Answer::ReadFault(_) | Answer::WriteFault(_) => 3,
             Answer::TooLong(_) | Answer::Refused { .. } => 4,
             Answer::Range { .. } | Answer::PadConflict { .. } => 6,
+            Answer::Unsupplied(_) => 7,
             Answer::NotCertified(..) => 9,
             Answer::Want => 10,
         }
@@ -72,6 +84,7 @@ impl Answer {
             Answer::Usage => Vec::from_slice(alloc, b"pdn: Usage\n"),
             Answer::Want => Vec::from_slice(alloc, b"pdn: Want\n"),
             Answer::ReadFault(file) => file_line(alloc, b"pdn: ReadFault ", file.bytes(), b"\n"),
+            Answer::WriteFault(file) => file_line(alloc, b"pdn: WriteFault ", file.bytes(), b"\n"),
             Answer::TooLong(file) => file_line(alloc, b"pdn: TooLong ", file.bytes(), b"\n"),
             Answer::Refused { file, place, kind } => {
                 refused_line(alloc, file.bytes(), *place, *kind)
@@ -86,6 +99,12 @@ impl Answer {
                 first,
                 second,
             } => conflict_line(alloc, node.bytes(), *first, *second),
+            Answer::Unsupplied(node) => file_line(alloc, b"pdn: Unsupplied ", node.bytes(), b"\n"),
+            Answer::Solved {
+                nodes,
+                resistors,
+                sweeps,
+            } => solved_line(alloc, *nodes, *resistors, *sweeps),
             Answer::Certified(nodes) => certified_line(alloc, *nodes),
             Answer::NotCertified(node, side, found) => {
                 not_certified_line(alloc, node.bytes(), *side, *found)

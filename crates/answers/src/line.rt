@@ -12,17 +12,17 @@ use itoa::Buffer;
 use outside::Place;
 use std::alloc::{AllocError, Global};
 
-/// A line with the name of a file in it.
+/// A line with the name of a file or of a node in it.
 pub(crate) fn file_line(
     alloc: Global,
     before: &[u8],
-    file: &[u8],
+    name: &[u8],
     after: &[u8],
 ) -> Result<Vec<u8>, AllocError>
-    ensures { IfOk result (λ line. line.items ≡ before.now ++ file.now ++ after.now) }
+    ensures { IfOk result (λ line. line.items ≡ before.now ++ name.now ++ after.now) }
 {
     let mut line = Vec::from_slice(alloc, before)?;
-    line.extend_from_slice(file)?;
+    line.extend_from_slice(name)?;
     line.extend_from_slice(after)?;
     Ok(line)
 }
@@ -118,6 +118,28 @@ pub(crate) fn certified_line(alloc: Global, nodes: u32) -> Result<Vec<u8>, Alloc
         buffer.format(nodes).as_bytes(),
         b" nodes\n",
     )
+}
+
+/// The line of a network that was certified in so many sweeps.
+pub(crate) fn solved_line(
+    alloc: Global,
+    nodes: u32,
+    resistors: u32,
+    sweeps: u64,
+) -> Result<Vec<u8>, AllocError>
+    ensures { IfOk result (λ line. line.items ≡
+        codes "solved " ++ decimal nodes ++ codes " nodes " ++ decimal resistors ++ codes " resistors " ++ decimal sweeps
+        ++ codes " sweeps\n") }
+{
+    let mut buffer = Buffer::new();
+    let mut line = Vec::from_slice(alloc, b"solved ")?;
+    line.extend_from_slice(buffer.format(nodes).as_bytes())?;
+    line.extend_from_slice(b" nodes ")?;
+    line.extend_from_slice(buffer.format(resistors).as_bytes())?;
+    line.extend_from_slice(b" resistors ")?;
+    line.extend_from_slice(buffer.format(sweeps).as_bytes())?;
+    line.extend_from_slice(b" sweeps\n")?;
+    Ok(line)
 }
 
 /// The word for a side.

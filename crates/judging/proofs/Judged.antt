@@ -29,19 +29,23 @@ use Rattle.spice_grid.specs.declared.error.SpiceKind.TheVariants as spice
 use Rattle.spice_grid.specs.declared.named.Named.{Named}
 use Rattle.spice_grid.specs.Netlist.{ReadsNetlist, IsAtWord, NamedKeeps}
 use Rattle.answers.specs.declared.answer.Answer.{Answer}
-use Rattle.answers.specs.declared.answer.Answer.TheVariants.{Usage, Want, ReadFault, TooLong, Refused, Range, PadConflict, Certified, NotCertified}
+use Rattle.answers.specs.declared.answer.Answer.TheVariants.{Usage, Want, ReadFault, WriteFault, TooLong, Refused, Range, PadConflict, Unsupplied, Solved, Certified, NotCertified}
 use Rattle.judging.specs.Texts.{HasNetwork, StandFor, GivesOne, IsVerdict, SolutionsLieBetween}
 use Rattle.judging.specs.Judging.{network_answer, netlist_answer, certificate_answer, RefusesNetlist, RefusesMerge, RefusesCertificate, Tests, Judges}
+use Rattle.judging.specs.Stage.{GivesNetwork, HasNoNetwork, IsToNetlist, IsToTexts}
 use Rattle.judging.specs.inside.Lists.{JudgesLists, merge_answer}
 use Rattle.judging.proofs.Groups.{one_merged}
 use Rattle.judging.proofs.Conflict.{apart, one_merge_refusal}
 
--- The laws of the crates below, as they are handed in.
-pub record AreLaws : Type 0 where
+-- The laws of the crates below, as they are handed in: those of netlists, and that of the test.
+pub record AreNetlistLaws : Type 0 where
   pub one_named : (text : List ℕ) (a b : Named) → ReadsNetlist text (Ok a) → ReadsNetlist text (Ok b) → a ≡ b
   pub one_kind : (text : List ℕ) (a b : SpiceError) → ReadsNetlist text (Err a) → ReadsNetlist text (Err b) → a.kind ≢ spice.Want → b.kind ≢ spice.Want → a.kind ≡ b.kind
   pub one_place : (text : List ℕ) (a b : SpiceError) → ReadsNetlist text (Err a) → ReadsNetlist text (Err b) → IsAtWord a.kind → b.kind ≢ spice.Want → a.place ≡ b.place
   pub not_both : (text : List ℕ) (named : Named) (error : SpiceError) → ReadsNetlist text (Ok named) → ReadsNetlist text (Err error) → error.kind ≡ spice.Want
+
+pub record AreLaws : Type 0 where
+  pub netlists : AreNetlistLaws
   pub no_failing : (net : Network) (high low : List ℤ) → IsCertificate net high low → first_failing net high low ≡ None
 
 -- ---- answers that differ
@@ -72,8 +76,23 @@ same_answer file p q spice.OutOfRange same = ap (λ x. netlist_answer file x spi
 same_answer file p q (spice.Net refusal) same = refl
 same_answer file p q spice.Want same = refl
 
-module _ (laws : AreLaws) (file_n file_c nt ct : List ℕ) where
-  one_netlist_refusal : (a b : Answer) → a ≢ Want → b ≢ Want → RefusesNetlist file_n nt a → RefusesNetlist file_n nt b → a ≡ b
+-- An answer is that of want of memory, or it is another one.
+answer_is_want : (a : Answer) → (a ≡ Want) ⊎ (a ≢ Want)
+answer_is_want Want = inl refl
+answer_is_want Usage = inr (λ e. cc)
+answer_is_want (ReadFault file) = inr (λ e. cc)
+answer_is_want (WriteFault file) = inr (λ e. cc)
+answer_is_want (TooLong file) = inr (λ e. cc)
+answer_is_want (Refused file place kind) = inr (λ e. cc)
+answer_is_want (Range quantity at number) = inr (λ e. cc)
+answer_is_want (PadConflict node first second) = inr (λ e. cc)
+answer_is_want (Unsupplied node) = inr (λ e. cc)
+answer_is_want (Solved nodes resistors sweeps) = inr (λ e. cc)
+answer_is_want (Certified nodes) = inr (λ e. cc)
+answer_is_want (NotCertified node side found) = inr (λ e. cc)
+
+module _ (laws : AreNetlistLaws) (file_n nt : List ℕ) where
+  pub one_netlist_refusal : (a b : Answer) → a ≢ Want → b ≢ Want → RefusesNetlist file_n nt a → RefusesNetlist file_n nt b → a ≡ b
   one_netlist_refusal a b some_a some_b x y =
       let not_a = some_netlist file_n nt a some_a x in
       let not_b = some_netlist file_n nt b some_b y in
@@ -83,11 +102,11 @@ module _ (laws : AreLaws) (file_n file_c nt ct : List ℕ) where
       ∙ ap (netlist_answer file_n y.error.place) kinds ∙ sym y.told
 
   -- A netlist that is refused has no record.
-  no_record : (a : Answer) (named : Named) → a ≢ Want → RefusesNetlist file_n nt a → ReadsNetlist nt (Ok named) → ⊥
+  pub no_record : (a : Answer) (named : Named) → a ≢ Want → RefusesNetlist file_n nt a → ReadsNetlist nt (Ok named) → ⊥
   no_record a named some x reads = some_netlist file_n nt a some x (laws.not_both nt named x.error reads x.refused)
 
   -- ---- pads of a group that differ
-  one_merge : (a b : Answer) → RefusesMerge nt a → RefusesMerge nt b → a ≡ b
+  pub one_merge : (a b : Answer) → RefusesMerge nt a → RefusesMerge nt b → a ≡ b
   one_merge a b x y =
       let named : y.named ≡ x.named = laws.one_named nt y.named x.named y.netlist x.netlist in
       let conflict : IsMergeRefusal x.named (merging.PadConflict y.node y.first y.second) =
@@ -95,25 +114,45 @@ module _ (laws : AreLaws) (file_n file_c nt ct : List ℕ) where
       x.told ∙ one_merge_refusal x.named x.node y.node x.first y.first x.second y.second x.conflict conflict ∙ sym y.told
 
   -- A netlist of which two pads of a group differ has no merged network.
-  no_network : (a : Answer) (named : Named) (merged : Merged) → RefusesMerge nt a → HasNetwork nt named merged → ⊥
+  pub no_network : (a : Answer) (named : Named) (merged : Merged) → RefusesMerge nt a → HasNetwork nt named merged → ⊥
   no_network a named merged x network =
       let same : named ≡ x.named = laws.one_named nt named x.named network.netlist x.netlist in
       let agree : PadsOfGroupsAgree x.named.net x.named.shorts = subst (λ (n : Named). PadsOfGroupsAgree n.net n.shorts) same network.agree in
       apart x.named.net x.named.shorts x.conflict.0 x.first x.second x.built agree x.conflict.1
 
   -- A netlist has one merged network.
-  one_network : (named named' : Named) (merged merged' : Merged) → HasNetwork nt named merged → HasNetwork nt named' merged' → (named ≡ named') × (merged ≡ merged')
+  pub one_network : (named named' : Named) (merged merged' : Merged) → HasNetwork nt named merged → HasNetwork nt named' merged' → (named ≡ named') × (merged ≡ merged')
   one_network named named' merged merged' x y =
       let same : named ≡ named' = laws.one_named nt named named' x.netlist y.netlist in
       (same, one_merged named' merged merged' (subst (λ n. IsMerged n merged) same x.merge) y.merge)
 
+  -- ---- one refusal
+  pub one_refusal : (a b : Answer) → HasNoNetwork file_n nt a → HasNoNetwork file_n nt b → a ≢ Want → b ≢ Want → a ≡ b
+  one_refusal a b (inl want) y some_a some_b = absurd (some_a want)
+  one_refusal a b x (inl want) some_a some_b = absurd (some_b want)
+  one_refusal a b (inr (inl x)) (inr (inl y)) some_a some_b = one_netlist_refusal a b some_a some_b x y
+  one_refusal a b (inr (inl x)) (inr (inr y)) some_a some_b = absurd (no_record a y.named some_a x y.netlist)
+  one_refusal a b (inr (inr x)) (inr (inl y)) some_a some_b = absurd (no_record b x.named some_b y x.netlist)
+  one_refusal a b (inr (inr x)) (inr (inr y)) some_a some_b = one_merge a b x y
+
+  -- A text that has a network is refused for want of memory alone.
+  pub want_alone : (named : Named) (merged : Merged) (a : Answer) → HasNetwork nt named merged → HasNoNetwork file_n nt a → a ≡ Want
+  want_alone named merged a network (inl want) = want
+  want_alone named merged a network (inr (inl x)) = refused_record (answer_is_want a)
+    where
+      refused_record : (a ≡ Want) ⊎ (a ≢ Want) → a ≡ Want
+      refused_record (inl want) = want
+      refused_record (inr some) = absurd (no_record a named some x network.netlist)
+  want_alone named merged a network (inr (inr x)) = absurd (no_network a named merged x network)
+
+module _ (laws : AreLaws) (file_n file_c nt ct : List ℕ) where
   -- ---- a certificate that is refused
   some_certificate : (answer : Answer) → answer ≢ Want → (r : RefusesCertificate file_c nt ct answer) → r.error.kind ≢ cert.Want
   some_certificate answer some r is = some (r.told ∙ ap (certificate_answer file_c r.error.place) is)
 
   one_certificate_refusal : (a b : Answer) → a ≢ Want → b ≢ Want → RefusesCertificate file_c nt ct a → RefusesCertificate file_c nt ct b → a ≡ b
   one_certificate_refusal a b some_a some_b x y =
-      let merged : y.merged ≡ x.merged = (one_network y.named x.named y.merged x.merged y.network x.network).1 in
+      let merged : y.merged ≡ x.merged = (one_network laws.netlists file_n nt y.named x.named y.merged x.merged y.network x.network).1 in
       let refused : ReadsCertificate x.merged.names ct (Err y.error) = subst (λ (m : Merged). ReadsCertificate m.names ct (Err y.error)) merged y.refused in
       let same : x.error ≡ y.error = x.one (Err x.error) (Err y.error) x.refused refused (some_certificate a some_a x) (some_certificate b some_b y) in
       x.told ∙ ap (λ (e : ReadError CertKind). certificate_answer file_c e.place e.kind) same ∙ sym y.told
@@ -121,7 +160,7 @@ module _ (laws : AreLaws) (file_n file_c nt ct : List ℕ) where
   -- A certificate that is refused has no lists.
   no_lists : (a : Answer) (named : Named) (merged : Merged) (lists : Lists) → a ≢ Want → RefusesCertificate file_c nt ct a → StandFor nt ct named merged lists → ⊥
   no_lists a named merged lists some x texts =
-      let same : merged ≡ x.merged = (one_network named x.named merged x.merged texts.network x.network).1 in
+      let same : merged ≡ x.merged = (one_network laws.netlists file_n nt named x.named merged x.merged texts.network x.network).1 in
       let reads : ReadsCertificate x.merged.names ct (Ok lists) = subst (λ (m : Merged). ReadsCertificate m.names ct (Ok lists)) same texts.certificate in
       some_certificate a some x (x.one (Ok lists) (Err x.error) reads x.refused)
 
@@ -129,14 +168,14 @@ module _ (laws : AreLaws) (file_n file_c nt ct : List ℕ) where
   -- Texts stand for one netlist, one merged network and one pair of lists.
   same_texts : (a : Answer) (named : Named) (merged : Merged) (lists : Lists) → (t : Tests nt ct a) → StandFor nt ct named merged lists → (t.named ≡ named) × (t.merged ≡ merged) × (t.lists ≡ lists)
   same_texts a named merged lists t texts =
-      let same = one_network t.named named t.merged merged t.texts.network texts.network in
+      let same = one_network laws.netlists file_n nt t.named named t.merged merged t.texts.network texts.network in
       let reads : ReadsCertificate t.merged.names ct (Ok lists) = subst (λ (m : Merged). ReadsCertificate m.names ct (Ok lists)) (sym same.1) texts.certificate in
       (same.0, same.1, t.one (Ok t.lists) (Ok lists) t.texts.certificate reads)
 
   pub tested : (named : Named) (merged : Merged) (lists : Lists) (a : Answer) → StandFor nt ct named merged lists → Judges file_n file_c nt ct a → a ≢ Want → IsVerdict merged lists a
   tested named merged lists a texts (inl want) some = absurd (some want)
-  tested named merged lists a texts (inr (inl x)) some = absurd (no_record a named some x texts.network.netlist)
-  tested named merged lists a texts (inr (inr (inl x))) some = absurd (no_network a named merged x texts.network)
+  tested named merged lists a texts (inr (inl x)) some = absurd (no_record laws.netlists file_n nt a named some x texts.network.netlist)
+  tested named merged lists a texts (inr (inr (inl x))) some = absurd (no_network laws.netlists file_n nt a named merged x texts.network)
   tested named merged lists a texts (inr (inr (inr (inl x)))) some = absurd (no_lists a named merged lists some x texts)
   tested named merged lists a texts (inr (inr (inr (inr t)))) some =
       let same = same_texts a named merged lists t texts in
@@ -162,14 +201,14 @@ module _ (laws : AreLaws) (file_n file_c nt ct : List ℕ) where
   one a b x (inl want) some_a some_b = absurd (some_b want)
   one a b (inr (inr (inr (inr x)))) y some_a some_b = by_test a b some_b x y
   one a b x (inr (inr (inr (inr y)))) some_a some_b = sym (by_test b a some_a y x)
-  one a b (inr (inl x)) (inr (inl y)) some_a some_b = one_netlist_refusal a b some_a some_b x y
-  one a b (inr (inl x)) (inr (inr (inl y))) some_a some_b = absurd (no_record a y.named some_a x y.netlist)
-  one a b (inr (inl x)) (inr (inr (inr (inl y)))) some_a some_b = absurd (no_record a y.named some_a x y.network.netlist)
-  one a b (inr (inr (inl x))) (inr (inl y)) some_a some_b = absurd (no_record b x.named some_b y x.netlist)
-  one a b (inr (inr (inl x))) (inr (inr (inl y))) some_a some_b = one_merge a b x y
-  one a b (inr (inr (inl x))) (inr (inr (inr (inl y)))) some_a some_b = absurd (no_network a y.named y.merged x y.network)
-  one a b (inr (inr (inr (inl x)))) (inr (inl y)) some_a some_b = absurd (no_record b x.named some_b y x.network.netlist)
-  one a b (inr (inr (inr (inl x)))) (inr (inr (inl y))) some_a some_b = absurd (no_network b x.named x.merged y x.network)
+  one a b (inr (inl x)) (inr (inl y)) some_a some_b = one_netlist_refusal laws.netlists file_n nt a b some_a some_b x y
+  one a b (inr (inl x)) (inr (inr (inl y))) some_a some_b = absurd (no_record laws.netlists file_n nt a y.named some_a x y.netlist)
+  one a b (inr (inl x)) (inr (inr (inr (inl y)))) some_a some_b = absurd (no_record laws.netlists file_n nt a y.named some_a x y.network.netlist)
+  one a b (inr (inr (inl x))) (inr (inl y)) some_a some_b = absurd (no_record laws.netlists file_n nt b x.named some_b y x.netlist)
+  one a b (inr (inr (inl x))) (inr (inr (inl y))) some_a some_b = one_merge laws.netlists file_n nt a b x y
+  one a b (inr (inr (inl x))) (inr (inr (inr (inl y)))) some_a some_b = absurd (no_network laws.netlists file_n nt a y.named y.merged x y.network)
+  one a b (inr (inr (inr (inl x)))) (inr (inl y)) some_a some_b = absurd (no_record laws.netlists file_n nt b x.named some_b y x.network.netlist)
+  one a b (inr (inr (inr (inl x)))) (inr (inr (inl y))) some_a some_b = absurd (no_network laws.netlists file_n nt b x.named x.merged y x.network)
   one a b (inr (inr (inr (inl x)))) (inr (inr (inr (inl y)))) some_a some_b = one_certificate_refusal a b some_a some_b x y
 
 -- ---- bounds
@@ -197,8 +236,8 @@ between principle nt ct a t holds q =
 
 pub bounded : AreLaws → IsPrinciple → (file_n file_c nt ct : List ℕ) (named : Named) (merged : Merged) (lists : Lists) (nodes : ℕ) → StandFor nt ct named merged lists → Judges file_n file_c nt ct (Certified nodes) → SolutionsLieBetween named merged lists
 bounded laws principle file_n file_c nt ct named merged lists nodes texts (inl want) = absurd (not_want nodes want)
-bounded laws principle file_n file_c nt ct named merged lists nodes texts (inr (inl x)) = absurd (no_record laws file_n file_c nt ct (Certified nodes) named (not_want nodes) x texts.network.netlist)
-bounded laws principle file_n file_c nt ct named merged lists nodes texts (inr (inr (inl x))) = absurd (no_network laws file_n file_c nt ct (Certified nodes) named merged x texts.network)
+bounded laws principle file_n file_c nt ct named merged lists nodes texts (inr (inl x)) = absurd (no_record laws.netlists file_n nt (Certified nodes) named (not_want nodes) x texts.network.netlist)
+bounded laws principle file_n file_c nt ct named merged lists nodes texts (inr (inr (inl x))) = absurd (no_network laws.netlists file_n nt (Certified nodes) named merged x texts.network)
 bounded laws principle file_n file_c nt ct named merged lists nodes texts (inr (inr (inr (inl x)))) = absurd (no_lists laws file_n file_c nt ct (Certified nodes) named merged lists (not_want nodes) x texts)
 bounded laws principle file_n file_c nt ct named merged lists nodes texts (inr (inr (inr (inr t)))) =
     let same = same_texts laws file_n file_c nt ct (Certified nodes) named merged lists t texts in
@@ -210,25 +249,10 @@ bounded laws principle file_n file_c nt ct named merged lists nodes texts (inr (
     holds = elim t.verdict [ inl x ↦ x.0 | inr (fails, node, first, named, told) ↦ absurd (not_failing nodes node fails told) ]
 
 -- ---- which answers texts have
--- The answer tells why something is refused, or that memory ran out.
-IsRefusal : Answer → Type 0
-IsRefusal Usage = ⊥
-IsRefusal Want = ⊤
-IsRefusal (ReadFault file) = ⊥
-IsRefusal (TooLong file) = ⊥
-IsRefusal (Refused file place kind) = ⊤
-IsRefusal (Range quantity at number) = ⊤
-IsRefusal (PadConflict node first second) = ⊤
-IsRefusal (Certified nodes) = ⊥
-IsRefusal (NotCertified node side found) = ⊥
-
-network_is : (r : NetRefusal) → IsRefusal (network_answer r)
-unfolding IsRefusal
+network_is : (r : NetRefusal) → IsToNetlist (network_answer r)
 network_is (net.Range quantity at number) = tt
 network_is (net.PadConflict node first second) = tt
-
-netlist_is : (file : List ℕ) (place : Place) (k : SpiceKind) → IsRefusal (netlist_answer file place k)
-unfolding IsRefusal
+netlist_is : (file : List ℕ) (place : Place) (k : SpiceKind) → IsToNetlist (netlist_answer file place k)
 netlist_is file place spice.Syntax = tt
 netlist_is file place spice.OutOfProfileCard = tt
 netlist_is file place spice.FloatingSource = tt
@@ -237,42 +261,49 @@ netlist_is file place spice.OutOfRange = tt
 netlist_is file place (spice.Net refusal) = network_is refusal
 netlist_is file place spice.Want = tt
 
-certificate_is : (file : List ℕ) (place : Place) (k : CertKind) → IsRefusal (certificate_answer file place k)
-unfolding IsRefusal
+certificate_is : (file : List ℕ) (place : Place) (k : CertKind) → IsToNetlist (certificate_answer file place k)
 certificate_is file place cert.Syntax = tt
 certificate_is file place cert.WrongNode = tt
 certificate_is file place (cert.Number e) = tt
 certificate_is file place cert.Want = tt
 
+netlist_to_texts : (a : Answer) → IsToNetlist a → IsToTexts a
+netlist_to_texts Want x = tt
+netlist_to_texts Usage x = x
+netlist_to_texts (ReadFault file) x = x
+netlist_to_texts (WriteFault file) x = x
+netlist_to_texts (TooLong file) x = x
+netlist_to_texts (Refused file place kind) x = tt
+netlist_to_texts (Range quantity at number) x = tt
+netlist_to_texts (PadConflict node first second) x = tt
+netlist_to_texts (Unsupplied node) x = x
+netlist_to_texts (Solved nodes resistors sweeps) x = x
+netlist_to_texts (Certified nodes) x = tt
+netlist_to_texts (NotCertified node side found) x = tt
+
+-- What is answered to the text of a netlist alone.
+pub netlist_sort : (file text : List ℕ) (a : Answer) → HasNoNetwork file text a → IsToNetlist a
+netlist_sort file text a (inl want) = subst IsToNetlist (sym want) tt
+netlist_sort file text a (inr (inl x)) = subst IsToNetlist (sym x.told) (netlist_is file x.error.place x.error.kind)
+netlist_sort file text a (inr (inr x)) = subst IsToNetlist (sym x.told) tt
+
 module _ (file_n file_c nt ct : List ℕ) where
   -- What is answered to texts is a refusal, or tells a test.
-  sorted : (a : Answer) → Judges file_n file_c nt ct a → IsRefusal a ⊎ Tests nt ct a
-  unfolding IsRefusal
-  sorted a (inl want) = inl (subst IsRefusal (sym want) tt)
-  sorted a (inr (inl x)) = inl (subst IsRefusal (sym x.told) (netlist_is file_n x.error.place x.error.kind))
-  sorted a (inr (inr (inl x))) = inl (subst IsRefusal (sym x.told) tt)
-  sorted a (inr (inr (inr (inl x)))) = inl (subst IsRefusal (sym x.told) (certificate_is file_c x.error.place x.error.kind))
+  sorted : (a : Answer) → Judges file_n file_c nt ct a → IsToNetlist a ⊎ Tests nt ct a
+  sorted a (inl want) = inl (subst IsToNetlist (sym want) tt)
+  sorted a (inr (inl x)) = inl (subst IsToNetlist (sym x.told) (netlist_is file_n x.error.place x.error.kind))
+  sorted a (inr (inr (inl x))) = inl (subst IsToNetlist (sym x.told) tt)
+  sorted a (inr (inr (inr (inl x)))) = inl (subst IsToNetlist (sym x.told) (certificate_is file_c x.error.place x.error.kind))
   sorted a (inr (inr (inr (inr t)))) = inr t
 
-  -- An answer that tells no test.
-  not_told : (a : Answer) → ((n : ℕ) → a ≢ Certified n) → ((node : List ℕ) (f : Fails) → a ≢ NotCertified node f.side f.found) → Tests nt ct a → ⊥
-  not_told a no_one no_other t = elim t.verdict [ inl x ↦ no_one t.merged.net.nodes x.1 | inr (fails, node, first, named, told) ↦ no_other node fails told ]
-
-  pub not_usage : ¬ Judges file_n file_c nt ct Usage
-  unfolding IsRefusal
-  not_usage j = elim (sorted Usage j) [ inl x ↦ x | inr t ↦ not_told Usage (λ n e. cc) (λ node f e. cc) t ]
-
-  pub not_read_fault : (file : List ℕ) → ¬ Judges file_n file_c nt ct (ReadFault file)
-  unfolding IsRefusal
-  not_read_fault file j = elim (sorted (ReadFault file) j) [ inl x ↦ x | inr t ↦ not_told (ReadFault file) (λ n e. cc) (λ node f e. cc) t ]
-
-  pub not_too_long : (file : List ℕ) → ¬ Judges file_n file_c nt ct (TooLong file)
-  unfolding IsRefusal
-  not_too_long file j = elim (sorted (TooLong file) j) [ inl x ↦ x | inr t ↦ not_told (TooLong file) (λ n e. cc) (λ node f e. cc) t ]
+  pub sort : (a : Answer) → Judges file_n file_c nt ct a → IsToTexts a
+  sort a j = elim (sorted a j) [
+    | inl x ↦ netlist_to_texts a x
+    | inr t ↦ elim t.verdict [ inl x ↦ subst IsToTexts (sym x.1) tt | inr (fails, node, first, named, told) ↦ subst IsToTexts (sym told) tt ]
+  ]
 
   pub certified : (nodes : ℕ) → Judges file_n file_c nt ct (Certified nodes)
       → (named : Named) × (merged : Merged) × (lists : Lists) × StandFor nt ct named merged lists × IsCertificate merged.net lists.high lists.low
-  unfolding IsRefusal
   certified nodes j = elim (sorted (Certified nodes) j) [
     | inl x ↦ absurd x
     | inr t ↦ (t.named, t.merged, t.lists, t.texts, elim t.verdict [ inl x ↦ x.0 | inr (fails, node, first, named, told) ↦ absurd (not_failing nodes node fails told) ])
@@ -280,25 +311,31 @@ module _ (file_n file_c nt ct : List ℕ) where
 
 -- ---- the certificate's text, after the network stands
 -- How the certificate is judged for a network is how both texts are judged.
-pub from_lists : (file_n file_c nt ct : List ℕ) (named : Named) (merged : Merged) (a : Answer) → NamedKeeps named → IsBuilt named.net → IsBuilt merged.net → HasNetwork nt named merged → GivesOne merged.names ct → JudgesLists file_c merged ct a → Judges file_n file_c nt ct a
-from_lists file_n file_c nt ct named merged a keeps built groups_built network alone (inl want) = inl want
-from_lists file_n file_c nt ct named merged a keeps built groups_built network alone (inr (inl (error, refused, told))) =
-    inr (inr (inr (inl (record { named = named; merged = merged; network = network; one = alone; error = error; refused = refused; told = told }))))
-from_lists file_n file_c nt ct named merged a keeps built groups_built network alone (inr (inr (lists, reads, verdict))) =
+pub from_lists : (file_n file_c nt ct : List ℕ) (named : Named) (merged : Merged) (a : Answer) → GivesNetwork nt named merged → GivesOne merged.names ct → JudgesLists file_c merged ct a → Judges file_n file_c nt ct a
+from_lists file_n file_c nt ct named merged a gives alone (inl want) = inl want
+from_lists file_n file_c nt ct named merged a gives alone (inr (inl (error, refused, told))) =
+    inr (inr (inr (inl (record { named = named; merged = merged; network = gives.network; one = alone; error = error; refused = refused; told = told }))))
+from_lists file_n file_c nt ct named merged a gives alone (inr (inr (lists, reads, verdict))) =
     inr (inr (inr (inr (record {
       named = named;
       merged = merged;
       lists = lists;
-      texts = record { network = network; certificate = reads };
+      texts = record { network = gives.network; certificate = reads };
       one = alone;
-      keeps = keeps;
-      built = built;
-      groups_built = groups_built;
+      keeps = gives.keeps;
+      built = gives.built;
+      groups_built = gives.groups_built;
       verdict = verdict;
     }))))
 
--- How a merge is refused is how both texts are judged.
-pub from_merge : (file_n file_c nt ct : List ℕ) (named : Named) (e : MergeError) (a : Answer) → ReadsNetlist nt (Ok named) → IsBuilt named.net → IsMergeRefusal named e → a ≡ merge_answer e → Judges file_n file_c nt ct a
-from_merge file_n file_c nt ct named (merging.PadConflict node first second) a reads built refused told =
-    inr (inr (inl (record { named = named; netlist = reads; built = built; node = node; first = first; second = second; conflict = refused; told = told })))
-from_merge file_n file_c nt ct named merging.Want a reads built refused told = inl told
+-- How the netlist alone is refused is how both texts are judged.
+pub from_netlist : (file_n file_c nt ct : List ℕ) (a : Answer) → HasNoNetwork file_n nt a → Judges file_n file_c nt ct a
+from_netlist file_n file_c nt ct a (inl want) = inl want
+from_netlist file_n file_c nt ct a (inr (inl x)) = inr (inl x)
+from_netlist file_n file_c nt ct a (inr (inr x)) = inr (inr (inl x))
+
+-- How a merge is refused is how the netlist is refused.
+pub from_merge : (file text : List ℕ) (named : Named) (e : MergeError) (a : Answer) → ReadsNetlist text (Ok named) → IsBuilt named.net → IsMergeRefusal named e → a ≡ merge_answer e → HasNoNetwork file text a
+from_merge file text named (merging.PadConflict node first second) a reads built refused told =
+    inr (inr (record { named = named; netlist = reads; built = built; node = node; first = first; second = second; conflict = refused; told = told }))
+from_merge file text named merging.Want a reads built refused told = inl told

@@ -4,10 +4,7 @@ use Rattle.judging.proofs.laws.texts_are_judged_once.Goals as goal
 pub returns-clause-one : goal.returns-clause-one
 returns-clause-one c =
     let laws : AreLaws = record {
-      one_named = c.texts_have_one_netlist.ensures.«record»;
-      one_kind = c.texts_have_one_netlist.ensures.kind;
-      one_place = c.texts_have_one_netlist.ensures.place;
-      not_both = c.texts_have_one_netlist.ensures.not_both;
+      netlists = record { one_named = c.texts_have_one_netlist.ensures.«record»; one_kind = c.texts_have_one_netlist.ensures.kind; one_place = c.texts_have_one_netlist.ensures.place; not_both = c.texts_have_one_netlist.ensures.not_both };
       no_failing = c.no_failing_test.ensures.none;
     } in
     one laws
@@ -15,10 +12,7 @@ returns-clause-one c =
 pub returns-clause-tested : goal.returns-clause-tested
 returns-clause-tested c =
     let laws : AreLaws = record {
-      one_named = c.texts_have_one_netlist.ensures.«record»;
-      one_kind = c.texts_have_one_netlist.ensures.kind;
-      one_place = c.texts_have_one_netlist.ensures.place;
-      not_both = c.texts_have_one_netlist.ensures.not_both;
+      netlists = record { one_named = c.texts_have_one_netlist.ensures.«record»; one_kind = c.texts_have_one_netlist.ensures.kind; one_place = c.texts_have_one_netlist.ensures.place; not_both = c.texts_have_one_netlist.ensures.not_both };
       no_failing = c.no_failing_test.ensures.none;
     } in
     tested laws
@@ -26,10 +20,7 @@ returns-clause-tested c =
 pub returns-clause-bounded : goal.returns-clause-bounded
 returns-clause-bounded c =
     let laws : AreLaws = record {
-      one_named = c.texts_have_one_netlist.ensures.«record»;
-      one_kind = c.texts_have_one_netlist.ensures.kind;
-      one_place = c.texts_have_one_netlist.ensures.place;
-      not_both = c.texts_have_one_netlist.ensures.not_both;
+      netlists = record { one_named = c.texts_have_one_netlist.ensures.«record»; one_kind = c.texts_have_one_netlist.ensures.kind; one_place = c.texts_have_one_netlist.ensures.place; not_both = c.texts_have_one_netlist.ensures.not_both };
       no_failing = c.no_failing_test.ensures.none;
     } in
     let principle : IsPrinciple = record {

@@ -1,12 +1,10 @@
-use Rattle.std.proofs.Common.{inl, inr}
+use Rattle.judging.proofs.Judged.{from_lists, from_netlist}
 use Rattle.judging.proofs.texts.judge.Goals as goal
 
 pub returns-in-Ok : goal.returns-in-Ok
-returns-in-Ok c = c.judge_merged.ensures c.args.netlist.now c.args.netlist_text.now c.in-Ok.ensures.reads
+returns-in-Ok c =
+    from_lists c.args.netlist.now c.args.certificate.now c.args.netlist_text.now c.args.certificate_text.now c.in-Ok.ensures.network.0 c.in-Ok.merged c.judge_lists.result
+    c.in-Ok.ensures.network.1 c.judge_lists.ensures.one c.judge_lists.ensures.judged
 
 pub returns-in-Err : goal.returns-in-Err
-returns-in-Err c =
-    elim c.netlist_refused.ensures [
-      | inl want ↦ inl want
-      | inr told ↦ inr (inl (record { error = c.in-Err.error; refused = c.in-Err.ensures.reads; told = told }))
-    ]
+returns-in-Err c = from_netlist c.args.netlist.now c.args.certificate.now c.args.netlist_text.now c.args.certificate_text.now c.in-Err.answer c.in-Err.ensures.refused

@@ -1,9 +1,10 @@
 //! `pdn`: a power grid builder with certified IR-drop sign-off.
 //!
-//! The program hands real files, standard output and the words after its name to `pdn_signoff::run`, and ends with the
-//! status that it answers.
+//! The program hands real files, standard output, a solver and the words after its name to `pdn_signoff::run`, and ends
+//! with the status that it answers.
 #![tactic(auto)]
 
+use multilevel_solve::Plain;
 use outside::{Argv, StdFiles, StdSink};
 use std::alloc::{AllocError, Global};
 use std::process::ExitCode;
@@ -35,5 +36,12 @@ fn main(rt: HostRuntime) -> ExitCode {
     };
     let mut files = StdFiles::new(alloc, &rt);
     let mut out = StdSink::new(&rt);
-    ExitCode::from(pdn_signoff::run(alloc, &words, &mut files, &mut out))
+    let mut solver = Plain::new();
+    ExitCode::from(pdn_signoff::run(
+        alloc,
+        &words,
+        &mut files,
+        &mut out,
+        &mut solver,
+    ))
 }

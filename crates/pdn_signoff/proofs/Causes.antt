@@ -4,7 +4,7 @@ use Rattle.outside.specs.Counts.{Rose}
 use Rattle.outside.specs.Files.{Holdings, bytes_in}
 use Rattle.outside.specs.Whole.{longest_text}
 use Rattle.answers.specs.declared.answer.Answer.{Answer}
-use Rattle.answers.specs.declared.answer.Answer.TheVariants.{Usage, Want, ReadFault, TooLong, Refused, Range, PadConflict, Certified, NotCertified}
+use Rattle.answers.specs.declared.answer.Answer.TheVariants.{Usage, Want, ReadFault, WriteFault, TooLong, Refused, Range, PadConflict, Unsupplied, Solved, Certified, NotCertified}
 use Rattle.answers.specs.Answer.{status_of}
 use Rattle.bound_check.specs.Failing.{first_failing}
 use Rattle.certificate_file.specs.declared.lists.Lists.{Lists}
@@ -15,15 +15,41 @@ use Rattle.judging.specs.Judging.{Judges}
 use Rattle.short_merge.specs.declared.merged.Merged.{Merged}
 use Rattle.spice_grid.specs.declared.named.Named.{Named}
 use Rattle.command_words.specs.declared.command.Command.{Command}
-use Rattle.command_words.specs.declared.command.Command.TheVariants.{Check}
+use Rattle.command_words.specs.declared.command.Command.TheVariants.{Check, Solve}
 use Rattle.command_words.specs.Words.{IsCommand}
-use Rattle.pdn_signoff.specs.Words.{IsCheck, IsUsage}
+use Rattle.pdn_signoff.specs.Words.{IsCheck, IsSolve, IsNotSolve, IsUsage}
 use Rattle.pdn_signoff.specs.Check.{FilesThen, NoneFailed, AreTexts, JudgesFiles, Answers}
+use Rattle.pdn_signoff.specs.Solve.{SolverThen, IsKept, Solves}
 use Rattle.pdn_signoff.specs.Command.{SinkThen, IsCause, Ends, IsCheckOf, HasCertificate}
 
 -- A run came to an answer that has its cause, and ended with it.
-abbrev pub Ran : List (List ℕ) → FilesThen → FilesThen → ℕ → SinkThen → SinkThen → Type 0
-Ran words before after result out out' = (answer : Answer) × IsCause words before after answer × Ends result out out' answer
+abbrev pub Ran : List (List ℕ) → SolverThen → SolverThen → FilesThen → FilesThen → ℕ → SinkThen → SinkThen → Type 0
+Ran words solver solver' before after result out out' = (answer : Answer) × IsCause words solver solver' before after answer × Ends result out out' answer
+
+-- The cause of an answer to words that are not those of `solve`.
+abbrev pub IsOtherCause : List (List ℕ) → FilesThen → FilesThen → Answer → Type 0
+IsOtherCause words before after answer =
+    ((answer ≡ Want) ⊎ ((answer ≡ Usage) × IsUsage words × NoneFailed before after))
+    ⊎ ((n : List ℕ) × (c : List ℕ) × IsCheck words n c × Answers before after n c answer)
+
+abbrev pub RanOther : List (List ℕ) → FilesThen → FilesThen → ℕ → SinkThen → SinkThen → Type 0
+RanOther words before after result out out' = (answer : Answer) × IsOtherCause words before after answer × Ends result out out' answer
+
+pub other_cause : (words : List (List ℕ)) (solver solver' : SolverThen) (before after : FilesThen) (answer : Answer) → IsNotSolve words → IsCause words solver solver' before after answer → IsOtherCause words before after answer
+other_cause words solver solver' before after answer not_solve (inl free) = inl free.1
+other_cause words solver solver' before after answer not_solve (inr (inl (n, c, is, kept, why))) = inr (n, c, is, why)
+other_cause words solver solver' before after answer not_solve (inr (inr (n, c, r, is, why))) = absurd (not_solve n c r is)
+
+pub ran_other : (words : List (List ℕ)) (solver solver' : SolverThen) (before after : FilesThen) (result : ℕ) (out out' : SinkThen) → IsNotSolve words → Ran words solver solver' before after result out out' → RanOther words before after result out out'
+ran_other words solver solver' before after result out out' not_solve (answer, cause, ends) = (answer, other_cause words solver solver' before after answer not_solve cause, ends)
+
+-- Words that are not those of `solve` leave the files.
+pub kept : (words : List (List ℕ)) (solver solver' : SolverThen) (before after : FilesThen) (result : ℕ) (out out' : SinkThen) → Ran words solver solver' before after result out out' → IsNotSolve words → IsKept before after
+kept words solver solver' before after result out out' (answer, cause, ends) not_solve =
+    elim cause [
+      | inl free ↦ free.0
+      | inr over ↦ elim over [ inl check ↦ check.3 | inr solve ↦ absurd (not_solve solve.0 solve.1 solve.2 solve.3) ]
+    ]
 
 -- The status of an answer, or that of a line that was not written.
 ended : (result : ℕ) (out out' : SinkThen) (answer : Answer) → Ends result out out' answer → (result ≡ status_of answer) ⊎ ((result ≡ 3) ⊎ (result ≡ 10))
@@ -48,29 +74,50 @@ no_usage before after netlist certificate (TooLong file) why e = absurd (omega a
 no_usage before after netlist certificate (Refused file place kind) why e = absurd (omega arith)
 no_usage before after netlist certificate (Range quantity at number) why e = absurd (omega arith)
 no_usage before after netlist certificate (PadConflict node first second) why e = absurd (omega arith)
+no_usage before after netlist certificate (WriteFault file) why e = why
+no_usage before after netlist certificate (Unsupplied node) why e = why
+no_usage before after netlist certificate (Solved nodes resistors sweeps) why e = why
 no_usage before after netlist certificate (Certified nodes) why e = absurd (omega arith)
 no_usage before after netlist certificate (NotCertified node side found) why e = absurd (omega arith)
 
+-- No answer of `solve` has the status of usage.
+no_usage_solved : (solver solver' : SolverThen) (before after : FilesThen) (n c r : List ℕ) (answer : Answer) → Solves solver solver' before after n c r answer → status_of answer ≢ 2
+no_usage_solved solver solver' before after n c r Usage why e = why
+no_usage_solved solver solver' before after n c r Want why e = absurd (omega arith)
+no_usage_solved solver solver' before after n c r (ReadFault file) why e = absurd (omega arith)
+no_usage_solved solver solver' before after n c r (WriteFault file) why e = absurd (omega arith)
+no_usage_solved solver solver' before after n c r (TooLong file) why e = absurd (omega arith)
+no_usage_solved solver solver' before after n c r (Refused file place kind) why e = absurd (omega arith)
+no_usage_solved solver solver' before after n c r (Range quantity at number) why e = absurd (omega arith)
+no_usage_solved solver solver' before after n c r (PadConflict node first second) why e = absurd (omega arith)
+no_usage_solved solver solver' before after n c r (Unsupplied node) why e = absurd (omega arith)
+no_usage_solved solver solver' before after n c r (Solved nodes resistors sweeps) why e = absurd (omega arith)
+no_usage_solved solver solver' before after n c r (Certified nodes) why e = why
+no_usage_solved solver solver' before after n c r (NotCertified node side found) why e = why
+
 -- The status 2 has its cause.
-pub usage : (words : List (List ℕ)) (before after : FilesThen) (result : ℕ) (out out' : SinkThen) → Ran words before after result out out' → result ≡ 2 → IsUsage words
-usage words before after result out out' (answer, cause, ends) is =
+pub usage : (words : List (List ℕ)) (solver solver' : SolverThen) (before after : FilesThen) (result : ℕ) (out out' : SinkThen) → Ran words solver solver' before after result out out' → result ≡ 2 → IsUsage words
+usage words solver solver' before after result out out' (answer, cause, ends) is =
     elim cause [
-      | inl free ↦ elim free [
+      | inl free ↦ elim free.1 [
         | inl want ↦ absurd (other_end 2 result out out' answer ends is (λ e. let ten : status_of answer ≡ 10 = ap status_of want in absurd (omega arith)) (omega arith))
         | inr used ↦ used.1
       ]
-      | inr over ↦ absurd (other_end 2 result out out' answer ends is (no_usage before after over.0 over.1 answer over.3) (omega arith))
+      | inr over ↦ elim over [
+        | inl check ↦ absurd (other_end 2 result out out' answer ends is (no_usage before after check.0 check.1 answer check.4) (omega arith))
+        | inr solve ↦ absurd (other_end 2 result out out' answer ends is (no_usage_solved solver solver' before after solve.0 solve.1 solve.2 answer solve.4) (omega arith))
+      ]
     ]
 
 -- Words of no command end with 2, or with the status of a line that was not written, or with that of want of memory.
-pub refused : (words : List (List ℕ)) (before after : FilesThen) (result : ℕ) (out out' : SinkThen) → Ran words before after result out out' → IsUsage words → (result ≡ 2) ⊎ ((result ≡ 3) ⊎ (result ≡ 10))
-refused words before after result out out' (answer, cause, ends) unformed =
+pub refused : (words : List (List ℕ)) (solver solver' : SolverThen) (before after : FilesThen) (result : ℕ) (out out' : SinkThen) → Ran words solver solver' before after result out out' → IsUsage words → (result ≡ 2) ⊎ ((result ≡ 3) ⊎ (result ≡ 10))
+refused words solver solver' before after result out out' (answer, cause, ends) unformed =
     elim cause [
-      | inl free ↦ elim free [
+      | inl free ↦ elim free.1 [
         | inl want ↦ elim (ended result out out' answer ends) [ inl e ↦ inr (inr (e ∙ ap status_of want)) | inr e ↦ inr e ]
         | inr used ↦ elim (ended result out out' answer ends) [ inl e ↦ inl (e ∙ ap status_of used.0) | inr e ↦ inr e ]
       ]
-      | inr over ↦ absurd (unformed over.0 over.1 over.2)
+      | inr over ↦ elim over [ inl check ↦ absurd (unformed.0 check.0 check.1 check.2) | inr solve ↦ absurd (unformed.1 solve.0 solve.1 solve.2 solve.3) ]
     ]
 
 -- No call on the files failed, where the answer is neither that of a file that could not be read nor that of want of memory.
@@ -82,20 +129,38 @@ none_failed before after n c (TooLong file) why read want = why.0
 none_failed before after n c (Refused file place kind) why read want = why.0
 none_failed before after n c (Range quantity at number) why read want = why.0
 none_failed before after n c (PadConflict node first second) why read want = why.0
+none_failed before after n c (WriteFault file) why read want = absurd why
+none_failed before after n c (Unsupplied node) why read want = absurd why
+none_failed before after n c (Solved nodes resistors sweeps) why read want = absurd why
 none_failed before after n c (Certified nodes) why read want = why.0
 none_failed before after n c (NotCertified node side found) why read want = why.0
 
+none_failed_solved : (solver solver' : SolverThen) (before after : FilesThen) (n c r : List ℕ) (answer : Answer) → Solves solver solver' before after n c r answer → status_of answer ≢ 3 → status_of answer ≢ 10 → NoneFailed before after
+none_failed_solved solver solver' before after n c r Usage why read want = absurd why
+none_failed_solved solver solver' before after n c r Want why read want = absurd (want refl)
+none_failed_solved solver solver' before after n c r (ReadFault file) why read want = absurd (read refl)
+none_failed_solved solver solver' before after n c r (WriteFault file) why read want = absurd (read refl)
+none_failed_solved solver solver' before after n c r (TooLong file) why read want = why.2
+none_failed_solved solver solver' before after n c r (Refused file place kind) why read want = why.1
+none_failed_solved solver solver' before after n c r (Range quantity at number) why read want = why.1
+none_failed_solved solver solver' before after n c r (PadConflict node first second) why read want = why.1
+none_failed_solved solver solver' before after n c r (Unsupplied node) why read want = why.1
+none_failed_solved solver solver' before after n c r (Solved nodes resistors sweeps) why read want = why.2
+none_failed_solved solver solver' before after n c r (Certified nodes) why read want = absurd why
+none_failed_solved solver solver' before after n c r (NotCertified node side found) why read want = absurd why
+
 -- A run that ends with another status than 3 and 10 met no failed call.
-pub calm : (words : List (List ℕ)) (before after : FilesThen) (result : ℕ) (out out' : SinkThen) → Ran words before after result out out' → result ≢ 3 → result ≢ 10 → NoneFailed before after × (out'.faults ≡ out.faults)
-calm words before after result out out' (answer, cause, ends) read want =
+pub calm : (words : List (List ℕ)) (solver solver' : SolverThen) (before after : FilesThen) (result : ℕ) (out out' : SinkThen) → Ran words solver solver' before after result out out' → result ≢ 3 → result ≢ 10 → NoneFailed before after × (out'.faults ≡ out.faults)
+calm words solver solver' before after result out out' (answer, cause, ends) read want =
     elim ends [
       | inr (inl unwritten) ↦ absurd (read unwritten.0)
       | inr (inr short) ↦ absurd (want short.0)
       | inl written ↦ (
         elim cause [
-          | inl (inl short) ↦ absurd (want (written.0 ∙ ap status_of short))
-          | inl (inr used) ↦ used.2
-          | inr over ↦ none_failed before after over.0 over.1 answer over.3 (λ e. read (written.0 ∙ e)) (λ e. want (written.0 ∙ e))
+          | inl (keeps, inl short) ↦ absurd (want (written.0 ∙ ap status_of short))
+          | inl (keeps, inr used) ↦ used.2
+          | inr (inl check) ↦ none_failed before after check.0 check.1 answer check.4 (λ e. read (written.0 ∙ e)) (λ e. want (written.0 ∙ e))
+          | inr (inr solve) ↦ none_failed_solved solver solver' before after solve.0 solve.1 solve.2 answer solve.4 (λ e. read (written.0 ∙ e)) (λ e. want (written.0 ∙ e))
         ],
         written.2,
       )
@@ -114,6 +179,10 @@ one_netlist laws words n c n' c' a b = let e = laws.one_command words (Check n c
 
 pub one_certificate_file : AreLaws → (words : List (List ℕ)) (n c n' c' : List ℕ) → IsCheck words n c → IsCheck words n' c' → c ≡ c'
 one_certificate_file laws words n c n' c' a b = let e = laws.one_command words (Check n c) (Check n' c') a b in cc
+
+-- The words of `check` are not those of `solve`.
+pub not_solve : AreLaws → (words : List (List ℕ)) (n c : List ℕ) → IsCheck words n c → IsNotSolve words
+not_solve laws words n c is n' c' r is' = let e = laws.one_command words (Check n c) (Solve n' c' r) is is' in cc
 
 -- What a file is said to have, where it is known what the files hold.
 pub of_held : (P : Holdings → Type 0) (known : Option Holdings) (held : Holdings) → known ≡ Some held → IfSome known P → P held
@@ -143,25 +212,28 @@ zero_over words before after n c (TooLong file) is why e = absurd (omega arith)
 zero_over words before after n c (Refused file place kind) is why e = absurd (omega arith)
 zero_over words before after n c (Range quantity at number) is why e = absurd (omega arith)
 zero_over words before after n c (PadConflict node first second) is why e = absurd (omega arith)
+zero_over words before after n c (WriteFault file) is why e = absurd why
+zero_over words before after n c (Unsupplied node) is why e = absurd why
+zero_over words before after n c (Solved nodes resistors sweeps) is why e = absurd why
 zero_over words before after n c (Certified nodes) is why e = record { n = n; c = c; is = is; nodes = nodes; judged = why }
 zero_over words before after n c (NotCertified node side found) is why e = absurd (omega arith)
 
-pub zero : (words : List (List ℕ)) (before after : FilesThen) (result : ℕ) (out out' : SinkThen) → Ran words before after result out out' → result ≡ 0 → IsZero words before after
+pub status_zero : (result : ℕ) (out out' : SinkThen) (answer : Answer) → Ends result out out' answer → result ≡ 0 → status_of answer ≡ 0
+status_zero result out out' answer ends is =
+    elim (ended result out out' answer ends) [
+      | inl e ↦ sym e ∙ is
+      | inr e ↦ elim e [ inl three ↦ absurd (omega arith) | inr ten ↦ absurd (omega arith) ]
+    ]
+
+pub zero : (words : List (List ℕ)) (before after : FilesThen) (result : ℕ) (out out' : SinkThen) → RanOther words before after result out out' → result ≡ 0 → IsZero words before after
 zero words before after result out out' (answer, cause, ends) is =
     elim cause [
       | inl free ↦ elim free [
         | inl want ↦ absurd (other_end 0 result out out' answer ends is (λ e. let ten : status_of answer ≡ 10 = ap status_of want in absurd (omega arith)) (omega arith))
         | inr used ↦ absurd (other_end 0 result out out' answer ends is (λ e. let two : status_of answer ≡ 2 = ap status_of used.0 in absurd (omega arith)) (omega arith))
       ]
-      | inr over ↦ zero_over words before after over.0 over.1 answer over.2 over.3 status_zero
+      | inr over ↦ zero_over words before after over.0 over.1 answer over.2 over.3 (status_zero result out out' answer ends is)
     ]
-  where
-    status_zero : status_of answer ≡ 0
-    status_zero =
-        elim (ended result out out' answer ends) [
-          | inl e ↦ sym e ∙ is
-          | inr e ↦ elim e [ inl three ↦ absurd (omega arith) | inr ten ↦ absurd (omega arith) ]
-        ]
 
 -- What is said of two texts whose certificate holds.
 abbrev pub TellsCertified : Type 0
@@ -170,7 +242,7 @@ TellsCertified =
     → (named : Named) × (merged : Merged) × (lists : Lists) × StandFor nt ct named merged lists × IsCertificate merged.net lists.high lists.low
 
 -- The status 0 says that the certificate holds on the merged netlist.
-pub certified : TellsCertified → (words : List (List ℕ)) (before after : FilesThen) (result : ℕ) (out out' : SinkThen) → Ran words before after result out out' → result ≡ 0 → IfSome before.known (HasCertificate words)
+pub certified : TellsCertified → (words : List (List ℕ)) (before after : FilesThen) (result : ℕ) (out out' : SinkThen) → RanOther words before after result out out' → result ≡ 0 → IfSome before.known (HasCertificate words)
 certified tells words before after result out out' ran is = by_zero (zero words before after result out out' ran is)
   where
     on_held : (known : Option Holdings) (n c : List ℕ) (nodes : ℕ) → IsCheck words n c → (nt ct : List ℕ) → AreTexts known n c nt ct → Judges n c nt ct (Certified nodes) → IfSome known (HasCertificate words)
@@ -195,7 +267,7 @@ certified tells words before after result out out' ran is = by_zero (zero words 
     by_zero z = let (quiet, (nt, ct, texts, judged)) = z.judged in on_held before.known z.n z.c z.nodes z.is nt ct texts judged
 
 -- After the status 0 every solution lies between the two lists.
-pub bounded : AreLaws → (words : List (List ℕ)) (before after : FilesThen) (result : ℕ) (out out' : SinkThen) → Ran words before after result out out' → (held : Holdings) (named : Named) (merged : Merged) (lists : Lists) → before.known ≡ Some held → IsCheckOf words held named merged lists → result ≡ 0 → SolutionsLieBetween named merged lists
+pub bounded : AreLaws → (words : List (List ℕ)) (before after : FilesThen) (result : ℕ) (out out' : SinkThen) → RanOther words before after result out out' → (held : Holdings) (named : Named) (merged : Merged) (lists : Lists) → before.known ≡ Some held → IsCheckOf words held named merged lists → result ≡ 0 → SolutionsLieBetween named merged lists
 bounded laws words before after result out out' ran held named merged lists told whole is =
     let z = zero words before after result out out' ran is in
     let (quiet, (nt, ct, texts, judged)) = z.judged in
@@ -219,7 +291,7 @@ by_verdict none merged lists a (inr (fails, node, first, named, told)) =
     inr (inl (ap status_of told, λ holds. let clash = sym (none merged.net lists.high lists.low holds) ∙ first in cc))
 
 -- The status of the answer, or that of want of memory, where the sink has no fault.
-unhindered : (result : ℕ) (out out' : SinkThen) (answer : Answer) → Ends result out out' answer → ¬ Rose out.faults out'.faults → (result ≡ status_of answer) ⊎ (result ≡ 10)
+pub unhindered : (result : ℕ) (out out' : SinkThen) (answer : Answer) → Ends result out out' answer → ¬ Rose out.faults out'.faults → (result ≡ status_of answer) ⊎ (result ≡ 10)
 unhindered result out out' answer (inl told) calm = inl told.0
 unhindered result out out' answer (inr (inl unwritten)) calm = absurd (calm unwritten.1)
 unhindered result out out' answer (inr (inr want)) calm = inr want.0
@@ -248,23 +320,26 @@ module _ (laws : AreLaws) (none : NoFailing) (words : List (List ℕ)) (before a
   judged_over n c (Refused file place kind) is why = judged_texts n c (Refused file place kind) is (λ e. cc) why
   judged_over n c (Range quantity at number) is why = judged_texts n c (Range quantity at number) is (λ e. cc) why
   judged_over n c (PadConflict node first second) is why = judged_texts n c (PadConflict node first second) is (λ e. cc) why
+  judged_over n c (WriteFault file) is why = absurd why
+  judged_over n c (Unsupplied node) is why = absurd why
+  judged_over n c (Solved nodes resistors sweeps) is why = absurd why
   judged_over n c (Certified nodes) is why = judged_texts n c (Certified nodes) is (λ e. cc) why
   judged_over n c (NotCertified node side found) is why = judged_texts n c (NotCertified node side found) is (λ e. cc) why
 
   -- Two texts are judged, where no fault comes and memory lasts.
-  pub judged_here : (result : ℕ) (out out' : SinkThen) → Ran words before after result out out' → ¬ Rose out.faults out'.faults → JudgedSo result merged lists
+  pub judged_here : (result : ℕ) (out out' : SinkThen) → RanOther words before after result out out' → ¬ Rose out.faults out'.faults → JudgedSo result merged lists
   judged_here result out out' (answer, cause, ends) calm_out =
       elim (unhindered result out out' answer ends calm_out) [
         | inr ten ↦ inr (inr ten)
         | inl e ↦ subst (λ r. JudgedSo r merged lists) (sym e) (elim cause [
           | inl free ↦ elim free [
             | inl want ↦ inr (inr (ap status_of want))
-            | inr used ↦ absurd (used.1 whole.netlist whole.certificate whole.words_are)
+            | inr used ↦ absurd (used.1.0 whole.netlist whole.certificate whole.words_are)
           ]
           | inr over ↦ judged_over over.0 over.1 answer over.2 over.3
         ])
       ]
 
-pub judged : AreLaws → NoFailing → (words : List (List ℕ)) (before after : FilesThen) (result : ℕ) (out out' : SinkThen) → Ran words before after result out out' → (held : Holdings) (named : Named) (merged : Merged) (lists : Lists) → before.known ≡ Some held → IsCheckOf words held named merged lists → ¬ Rose before.counts.faults after.counts.faults → ¬ Rose out.faults out'.faults → JudgedSo result merged lists
+pub judged : AreLaws → NoFailing → (words : List (List ℕ)) (before after : FilesThen) (result : ℕ) (out out' : SinkThen) → RanOther words before after result out out' → (held : Holdings) (named : Named) (merged : Merged) (lists : Lists) → before.known ≡ Some held → IsCheckOf words held named merged lists → ¬ Rose before.counts.faults after.counts.faults → ¬ Rose out.faults out'.faults → JudgedSo result merged lists
 judged laws none words before after result out out' ran held named merged lists told whole calm calm_out =
     judged_here laws none words before after held named merged lists told whole calm result out out' ran calm_out

@@ -6,12 +6,12 @@ use Rattle.outside.specs.Counts.{FaultCounts, Rose, last_count}
 use Rattle.outside.specs.Files.{Holdings, bytes_in}
 use Rattle.outside.specs.Whole.{longest_text}
 use Rattle.answers.specs.declared.answer.Answer.{Answer}
-use Rattle.answers.specs.declared.answer.Answer.TheVariants.{Usage, Want, ReadFault, TooLong, Refused, Range, PadConflict, Certified, NotCertified}
+use Rattle.answers.specs.declared.answer.Answer.TheVariants.{Usage, Want, ReadFault, WriteFault, TooLong, Refused, Range, PadConflict, Unsupplied, Solved, Certified, NotCertified}
 use Rattle.judging.specs.Judging.{Judges}
 use Rattle.pdn_signoff.specs.Words.{IsCheck, IsUsage}
 use Rattle.pdn_signoff.specs.Check.{FilesThen, NoneFailed, JudgesFiles, Answers}
-use Rattle.pdn_signoff.specs.Command.{IsCause, CanRise}
-use Rattle.pdn_signoff.proofs.Causes.{AreLaws, of_held, one_netlist, one_certificate_file}
+use Rattle.pdn_signoff.specs.Command.{CanRise}
+use Rattle.pdn_signoff.proofs.Causes.{IsOtherCause, AreLaws, of_held, one_netlist, one_certificate_file}
 
 module _ (file_n file_c n c : List ℕ) where
   -- The answers over two files that are held, each with its cause.
@@ -28,7 +28,7 @@ module _ (file_n file_c n c : List ℕ) where
   IsStage a = IsLongNetlist a ⊎ (IsLongCertificate a ⊎ IsJudged a)
 
 -- Two answers are one, where each of two kinds has one answer and the kinds exclude each other.
-one_of_two : (P Q : Answer → Type 0) → ((a b : Answer) → P a → P b → a ≡ b) → ((a b : Answer) → Q a → Q b → a ≡ b) → ((a b : Answer) → P a → Q b → ⊥) → (a b : Answer) → (P a ⊎ Q a) → (P b ⊎ Q b) → a ≡ b
+pub one_of_two : (P Q : Answer → Type 0) → ((a b : Answer) → P a → P b → a ≡ b) → ((a b : Answer) → Q a → Q b → a ≡ b) → ((a b : Answer) → P a → Q b → ⊥) → (a b : Answer) → (P a ⊎ Q a) → (P b ⊎ Q b) → a ≡ b
 one_of_two P Q one_p one_q apart a b (inl x) (inl y) = one_p a b x y
 one_of_two P Q one_p one_q apart a b (inl x) (inr y) = absurd (apart a b x y)
 one_of_two P Q one_p one_q apart a b (inr x) (inl y) = absurd (apart b a y x)
@@ -48,7 +48,7 @@ module _ (laws : AreLaws) (file_n file_c n c : List ℕ) where
   ])
 
 -- A count that rose has not stayed, where it can rise.
-rose_or_stays : (old new : ℕ) → Rose old new → new ≡ old → new ≢ last_count → ⊥
+pub rose_or_stays : (old new : ℕ) → Rose old new → new ≡ old → new ≢ last_count → ⊥
 rose_or_stays old new (inl more) same can = omega arith
 rose_or_stays old new (inr last) same can = can last
 
@@ -117,12 +117,15 @@ stage_of before after held n c (TooLong file) known some why =
 stage_of before after held n c (Refused file place kind) known some why = judged_stage before after held n c (Refused file place kind) known some why
 stage_of before after held n c (Range quantity at number) known some why = judged_stage before after held n c (Range quantity at number) known some why
 stage_of before after held n c (PadConflict node first second) known some why = judged_stage before after held n c (PadConflict node first second) known some why
+stage_of before after held n c (WriteFault file) known some why = absurd why
+stage_of before after held n c (Unsupplied node) known some why = absurd why
+stage_of before after held n c (Solved nodes resistors sweeps) known some why = absurd why
 stage_of before after held n c (Certified nodes) known some why = judged_stage before after held n c (Certified nodes) known some why
 stage_of before after held n c (NotCertified node side found) known some why = judged_stage before after held n c (NotCertified node side found) known some why
 
 -- Of the answers other than want of memory, one alone has its cause.
-pub one_answer : AreLaws → (words : List (List ℕ)) (before after : FilesThen) (held : Holdings) (a b : Answer) → before.known ≡ Some held → CanRise after.counts → IsCause words before after a → IsCause words before after b → a ≢ Want → b ≢ Want → a ≡ b
-one_answer laws words before after held a b known can x y some_a some_b = one_of_two Used Over (λ p q e f. e.0 ∙ sym f.0) one_over (λ p q e f. e.1 f.1.0 f.1.1 f.1.2) a b (settled a some_a x) (settled b some_b y)
+pub one_answer : AreLaws → (words : List (List ℕ)) (before after : FilesThen) (held : Holdings) (a b : Answer) → before.known ≡ Some held → CanRise after.counts → IsOtherCause words before after a → IsOtherCause words before after b → a ≢ Want → b ≢ Want → a ≡ b
+one_answer laws words before after held a b known can x y some_a some_b = one_of_two Used Over (λ p q e f. e.0 ∙ sym f.0) one_over (λ p q e f. e.1.0 f.1.0 f.1.1 f.1.2) a b (settled a some_a x) (settled b some_b y)
   where
     Used : Answer → Type 0
     Used p = (p ≡ Usage) × IsUsage words
@@ -130,7 +133,7 @@ one_answer laws words before after held a b known can x y some_a some_b = one_of
     Over : Answer → Type 0
     Over p = (p ≢ Want) × ((netlist : List ℕ) × (certificate : List ℕ) × IsCheck words netlist certificate × Answers before after netlist certificate p)
 
-    settled : (p : Answer) → p ≢ Want → IsCause words before after p → Used p ⊎ Over p
+    settled : (p : Answer) → p ≢ Want → IsOtherCause words before after p → Used p ⊎ Over p
     settled p some cause = elim cause [ inl free ↦ elim free [ inl want ↦ absurd (some want) | inr used ↦ inl (used.0, used.1) ] | inr over ↦ inr (some, over) ]
 
     one_over : (p q : Answer) → Over p → Over q → p ≡ q

@@ -6,8 +6,9 @@ use Rattle.outside.specs.Whole.{longest_text}
 use Rattle.outside.specs.declared.whole.ReadError.{ReadError}
 use Rattle.outside.specs.declared.whole.ReadError.TheVariants as reading
 use Rattle.answers.specs.declared.answer.Answer.{Answer}
-use Rattle.answers.specs.declared.answer.Answer.TheVariants.{Usage, Want, ReadFault, TooLong, Refused, Range, PadConflict, Certified, NotCertified}
+use Rattle.answers.specs.declared.answer.Answer.TheVariants.{Usage, Want, ReadFault, WriteFault, TooLong, Refused, Range, PadConflict, Unsupplied, Solved, Certified, NotCertified}
 use Rattle.judging.specs.Judging.{Judges}
+use Rattle.judging.specs.Stage.{IsToTexts}
 use Rattle.pdn_signoff.specs.Check.{FilesThen, NoneFailed, AreTexts, Fits, Answers}
 use Rattle.pdn_signoff.specs.inside.Check.{unread_answer}
 
@@ -42,18 +43,19 @@ fits_read None file text is short = tt
 fits_read (Some held) file text is short = subst (λ (t : List ℕ). length t ≤ longest_text) is short
 
 -- An answer to two texts that were read without a fault.
-pub record AreOfTexts : Type 0 where
-  pub not_usage : (n c nt ct : List ℕ) → ¬ Judges n c nt ct Usage
-  pub not_read_fault : (n c nt ct file : List ℕ) → ¬ Judges n c nt ct (ReadFault file)
-  pub not_too_long : (n c nt ct file : List ℕ) → ¬ Judges n c nt ct (TooLong file)
+abbrev pub HaveSort : Type 0
+HaveSort = (n c nt ct : List ℕ) (a : Answer) → Judges n c nt ct a → IsToTexts a
 
-pub judged_files : AreOfTexts → (before after : FilesThen) (n c nt ct : List ℕ) (a : Answer) → NoneFailed before after → AreTexts before.known n c nt ct → Judges n c nt ct a → Answers before after n c a
-judged_files laws before after n c nt ct Usage calm texts judged = laws.not_usage n c nt ct judged
-judged_files laws before after n c nt ct Want calm texts judged = tt
-judged_files laws before after n c nt ct (ReadFault file) calm texts judged = absurd (laws.not_read_fault n c nt ct file judged)
-judged_files laws before after n c nt ct (TooLong file) calm texts judged = absurd (laws.not_too_long n c nt ct file judged)
-judged_files laws before after n c nt ct (Refused file place kind) calm texts judged = (calm, (nt, ct, texts, judged))
-judged_files laws before after n c nt ct (Range quantity at number) calm texts judged = (calm, (nt, ct, texts, judged))
-judged_files laws before after n c nt ct (PadConflict node first second) calm texts judged = (calm, (nt, ct, texts, judged))
-judged_files laws before after n c nt ct (Certified nodes) calm texts judged = (calm, (nt, ct, texts, judged))
-judged_files laws before after n c nt ct (NotCertified node side found) calm texts judged = (calm, (nt, ct, texts, judged))
+pub judged_files : HaveSort → (before after : FilesThen) (n c nt ct : List ℕ) (a : Answer) → NoneFailed before after → AreTexts before.known n c nt ct → Judges n c nt ct a → Answers before after n c a
+judged_files sort before after n c nt ct Usage calm texts judged = sort n c nt ct Usage judged
+judged_files sort before after n c nt ct Want calm texts judged = tt
+judged_files sort before after n c nt ct (ReadFault file) calm texts judged = absurd (sort n c nt ct (ReadFault file) judged)
+judged_files sort before after n c nt ct (WriteFault file) calm texts judged = sort n c nt ct (WriteFault file) judged
+judged_files sort before after n c nt ct (TooLong file) calm texts judged = absurd (sort n c nt ct (TooLong file) judged)
+judged_files sort before after n c nt ct (Refused file place kind) calm texts judged = (calm, (nt, ct, texts, judged))
+judged_files sort before after n c nt ct (Range quantity at number) calm texts judged = (calm, (nt, ct, texts, judged))
+judged_files sort before after n c nt ct (PadConflict node first second) calm texts judged = (calm, (nt, ct, texts, judged))
+judged_files sort before after n c nt ct (Unsupplied node) calm texts judged = sort n c nt ct (Unsupplied node) judged
+judged_files sort before after n c nt ct (Solved nodes resistors sweeps) calm texts judged = sort n c nt ct (Solved nodes resistors sweeps) judged
+judged_files sort before after n c nt ct (Certified nodes) calm texts judged = (calm, (nt, ct, texts, judged))
+judged_files sort before after n c nt ct (NotCertified node side found) calm texts judged = (calm, (nt, ct, texts, judged))

@@ -4,7 +4,7 @@ use Rattle.outside.specs.Counts.{FaultCounts, Rose}
 use Rattle.outside.specs.Files.{Holdings, bytes_in}
 use Rattle.outside.specs.Whole.{longest_text}
 use Rattle.answers.specs.declared.answer.Answer.{Answer}
-use Rattle.answers.specs.declared.answer.Answer.TheVariants.{Usage, Want, ReadFault, TooLong, Refused, Range, PadConflict, Certified, NotCertified}
+use Rattle.answers.specs.declared.answer.Answer.TheVariants.{Usage, Want, ReadFault, WriteFault, TooLong, Refused, Range, PadConflict, Unsupplied, Solved, Certified, NotCertified}
 use Rattle.judging.specs.Judging.{Judges}
 
 -- What is known of files at a moment: what they hold, if that is known, and the counts of the calls that failed.
@@ -78,3 +78,6 @@ Answers before after netlist certificate (NotCertified node side found) =
     JudgesFiles before after netlist certificate (NotCertified node side found)
 Answers before after netlist certificate Want = Unit {0}
 Answers before after netlist certificate Usage = ⊥
+Answers before after netlist certificate (WriteFault file) = ⊥
+Answers before after netlist certificate (Unsupplied node) = ⊥
+Answers before after netlist certificate (Solved nodes resistors sweeps) = ⊥

@@ -1,4 +1,5 @@
 pub mod Check
+pub mod Solve
 pub mod Command
 pub mod Words
 pub mod inside

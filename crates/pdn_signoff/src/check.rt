@@ -1,12 +1,11 @@
 //! The command `check`: two files are read, and their texts judged.
-ghost use Rattle.std.specs.Prelude.{◌≡◌, ◌⊎◌};
-ghost use Rattle.answers.specs.declared.answer.Answer.TheVariants.{Want};
+ghost use Rattle.std.specs.Prelude.{◌≡◌};
 ghost use Rattle.pdn_signoff.specs.Check.{Answers};
-ghost use Rattle.pdn_signoff.specs.inside.Check.{unread_answer};
 
+use crate::unread::unread;
 use answers::Answer;
 use judging::{answers_to_texts, judge};
-use outside::{Files, LONGEST_TEXT, Name, ReadError, read_whole};
+use outside::{Files, LONGEST_TEXT, read_whole};
 use std::alloc::Global;
 
 /// Reads both files, the netlist first, and then judges their texts.
@@ -33,18 +32,4 @@ pub fn check<F: Files>(alloc: Global, files: &mut F, netlist: &str, certificate:
         certificate,
         &certificate_text,
     )
-}
-
-/// The answer to a file that was not read.
-fn unread(alloc: Global, error: ReadError, file: &str) -> Answer
-    ensures { (result ≡ Want) ⊎ (result ≡ unread_answer error file.now) }
-{
-    let Ok(file) = Name::new(alloc, file.as_bytes()) else {
-        return Answer::Want;
-    };
-    match error {
-        ReadError::ReadFault => Answer::ReadFault(file),
-        ReadError::TooLong => Answer::TooLong(file),
-        ReadError::Want => Answer::Want,
-    }
 }

@@ -2,23 +2,29 @@
 ghost use Rattle.std.specs.Prelude.{◌≡◌, ◌≢◌, ◌⊎◌, ℕ, List, Some, IfSome};
 ghost use Rattle.outside.specs.Counts.{Rose};
 ghost use Rattle.outside.specs.Files.{Holdings};
+ghost use Rattle.outside.specs.Known.{WhereKnown};
 ghost use Rattle.answers.specs.declared.answer.Answer.{Answer as Told};
 ghost use Rattle.answers.specs.declared.answer.Answer.TheVariants.{Want};
 ghost use Rattle.certificate_file.specs.declared.lists.Lists.{Lists};
 ghost use Rattle.grid_net.specs.Certificate.{IsCertificate};
 ghost use Rattle.judging.specs.Texts.{SolutionsLieBetween};
 ghost use Rattle.short_merge.specs.declared.merged.Merged.{Merged};
+ghost use Rattle.solving.specs.Signed.{EachIsSupplied};
 ghost use Rattle.spice_grid.specs.declared.named.Named.{Named};
 ghost use Rattle.pdn_signoff.specs.Check.{FilesThen};
-ghost use Rattle.pdn_signoff.specs.Command.{IsCause, CanRise, Ends, PrintEnds, IsCheckOf, HasCertificate};
-ghost use Rattle.pdn_signoff.specs.Words.{IsUsage};
+ghost use Rattle.pdn_signoff.specs.Solve.{SolverThen};
+ghost use Rattle.pdn_signoff.specs.Command.{IsCause, CanRise, Ends, PrintEnds, IsCheckOf, HasCertificate, IsSolveOf, LeavesSigned, ChangesOnly, AreAlike};
+ghost use Rattle.pdn_signoff.specs.Words.{IsCheck, IsSolve, IsNotSolve, IsUsage};
 
 use crate::check::check;
+use crate::solve::solve;
 use answers::Answer;
 use bound_check::no_failing_test;
 use command_words::{Command, WordsError, read, words_have_one_command};
+use grid_net::Solver;
 use judging::{answers_to_texts, texts_are_judged_once};
 use outside::{Argv, Files, Sink, WriteError, send};
+use solving::netlists_are_solved_once;
 use std::alloc::Global;
 
 /// The exit status where the line of the answer could not be written.
@@ -27,36 +33,52 @@ const UNWRITTEN: u8 = 3;
 /// The exit status where memory ran out.
 const WANT: u8 = 10;
 
-/// Runs the command that the words name, over the files, prints its one line to `out` and answers the exit status.
+/// Runs the command that the words name, over the files and with the solver, prints its one line to `out` and answers the
+/// exit status.
 ///
-/// The order of the work is: the words, the netlist is read, the certificate is read, the netlist's text, its shorts are
-/// merged, the certificate's text, the test. What comes later is answered only where nothing earlier is refused. A netlist
-/// of which some node has no supply is judged as any other.
+/// The order of the work of `check` is: the words, the netlist is read, the certificate is read, the netlist's text, its
+/// shorts are merged, the certificate's text, the test. That of `solve` is: the words, the netlist is read, its text, its
+/// shorts are merged, the supply is tested, the network is certified, the certificate is written, the report is written.
+/// The line comes last. What comes later is answered only where nothing earlier is refused. `check` judges a netlist of
+/// which some node has no supply as any other.
 ///
 /// | Status | Line | When |
 /// |---|---|---|
-/// | 0 | `certified <n> nodes` | the certificate holds on the merged netlist, of n groups |
-/// | 2 | `pdn: Usage` | the words are those of no command, or of one that is not made yet: of all but `check` |
+/// | 0 | `certified <n> nodes` | `check`: the certificate holds on the merged netlist, of n groups |
+/// | 0 | `solved <n> nodes <r> resistors <k> sweeps` | `solve`: certificate and report are written, of n groups |
+/// | 2 | `pdn: Usage` | the words are those of no command, or of one that is not made yet: `build` and `generate` |
 /// | 3 | `pdn: ReadFault <file>` | the file could not be read |
+/// | 3 | `pdn: WriteFault <file>` | `solve`: the file could not be written |
 /// | 3 | none, or a part of it | the line could not be written |
 /// | 4 | `pdn: TooLong <file>` | the file has more than 2^28 bytes |
 /// | 4 | `pdn: <file>:<line>:<word>: <Kind>` | its text is refused at this word; after `Number` stands why |
 /// | 6 | `pdn: Range <quantity> <at> <number>` | a quantity of the netlist passes its limit |
 /// | 6 | `pdn: PadConflict <node> <first> <second>` | two pads of one node, or of one group, differ |
-/// | 9 | `pdn: NotCertified <node> <side> <found>` | the certificate fails, first by this test |
+/// | 7 | `pdn: Unsupplied <node>` | `solve`: no chain of resistors joins the node to a pad; the first such node |
+/// | 9 | `pdn: NotCertified <node> <side> <found>` | `check`: the certificate fails, first by this test |
 /// | 10 | `pdn: Want`, or a part of a line | memory ran out |
-pub fn run<F: Files, O: Sink>(alloc: Global, words: &Argv, files: &mut F, out: &mut O) -> u8
+pub fn run<F: Files, O: Sink, V: Solver>(
+    alloc: Global,
+    words: &Argv,
+    files: &mut F,
+    out: &mut O,
+    solver: &mut V,
+) -> u8
     // The run comes to an answer that has its cause, and ends with it.
     ensures answer { (answer : Told)
         × IsCause words.now
+        (record { told = V.told solver.old; proposals = V.proposals solver.old })
+        (record { told = V.told solver.new; proposals = V.proposals solver.new })
         (record { known = F.known files.old; counts = F.counts files.old })
         (record { known = F.known files.new; counts = F.counts files.new }) answer
         × Ends result
         (record { known = O.known out.old; faults = O.faults out.old })
         (record { known = O.known out.new; faults = O.faults out.new }) answer }
 
-    // No file changes.
-    ensures kept { F.known files.new ≡ F.known files.old }
+    // No file changes but the outputs of `solve`.
+    ensures kept { IsNotSolve words.now → F.known files.new ≡ F.known files.old }
+    ensures others { (netlist certificate report : List ℕ) → IsSolve words.now netlist certificate report
+        → WhereKnown (ChangesOnly certificate report) (F.known files.old) (F.known files.new) }
 
     // A run ends with 3 or 10, or no call on the files or the sink failed.
     ensures calm { result ≢ 3 → result ≢ 10
@@ -66,8 +88,9 @@ pub fn run<F: Files, O: Sink>(alloc: Global, words: &Argv, files: &mut F, out: &
     ensures usage { result ≡ 2 → IsUsage words.now }
     ensures refused { IsUsage words.now → (result ≡ 2) ⊎ ((result ≡ 3) ⊎ (result ≡ 10)) }
 
-    // The status 0 says that the certificate holds on the merged netlist, where it is known what the files hold.
-    ensures certified { result ≡ 0 → IfSome (F.known files.old) (λ held. HasCertificate words.now held) }
+    // The status 0 of `check` says that the certificate holds on the merged netlist, where it is known what the files hold.
+    ensures certified { (netlist certificate : List ℕ) → IsCheck words.now netlist certificate → result ≡ 0
+        → IfSome (F.known files.old) (λ held. HasCertificate words.now held) }
 
     // Texts that stand for a netlist and two lists are judged, where no call fails and memory lasts: 0 where the
     // certificate holds, 9 where it does not.
@@ -82,35 +105,71 @@ pub fn run<F: Files, O: Sink>(alloc: Global, words: &Argv, files: &mut F, out: &
     ensures bounded { (held : Holdings) (named : Named) (merged : Merged) (lists : Lists)
         → F.known files.old ≡ Some held → IsCheckOf words.now held named merged lists → result ≡ 0
         → SolutionsLieBetween named merged lists }
+
+    // After the status 0 of `solve` its two outputs hold the texts of a tight certificate of the merged netlist and of its
+    // report, and every solution of the netlist as it was written, shorts included, lies within the intervals that the
+    // report prints, where it is known what the files hold. The certificate stands to what the solver tells as
+    // certification has it.
+    ensures signed { (netlist certificate report : List ℕ) → IsSolve words.now netlist certificate report → result ≡ 0
+        → WhereKnown (LeavesSigned (V.told solver.old) netlist certificate report) (F.known files.old) (F.known files.new) }
+
+    // Then the solver was asked. What it tells never changes.
+    ensures asked { (netlist certificate report : List ℕ) → IsSolve words.now netlist certificate report → result ≡ 0
+        → Rose (V.proposals solver.old) (V.proposals solver.new) }
+    ensures told { V.told solver.new ≡ V.told solver.old }
+
+    // A text that stands for a netlist is solved, where no call fails and memory lasts: 0 where each node of its merged
+    // network is supplied, 7 where one is not.
+    ensures solved { (held : Holdings) (named : Named) (merged : Merged)
+        → F.known files.old ≡ Some held → IsSolveOf words.now held named merged
+        → ¬ Rose (F.counts files.old).faults (F.counts files.new).faults → ¬ Rose (O.faults out.old) (O.faults out.new)
+        → ((result ≡ 0) × EachIsSupplied merged.net)
+        ⊎ (((result ≡ 7) × ¬ EachIsSupplied merged.net) ⊎ (result ≡ 10)) }
 {
     no_failing_test();
     answers_to_texts();
     texts_are_judged_once();
+    netlists_are_solved_once();
     words_have_one_command();
-    run_command(alloc, words, files, out)
+    run_command(alloc, words, files, out, solver)
 }
 
 /// Comes to an answer, and tells it.
-fn run_command<F: Files, O: Sink>(alloc: Global, words: &Argv, files: &mut F, out: &mut O) -> u8
+fn run_command<F: Files, O: Sink, V: Solver>(
+    alloc: Global,
+    words: &Argv,
+    files: &mut F,
+    out: &mut O,
+    solver: &mut V,
+) -> u8
     ensures answer { (answer : Told)
         × IsCause words.now
+        (record { told = V.told solver.old; proposals = V.proposals solver.old })
+        (record { told = V.told solver.new; proposals = V.proposals solver.new })
         (record { known = F.known files.old; counts = F.counts files.old })
         (record { known = F.known files.new; counts = F.counts files.new }) answer
         × Ends result
         (record { known = O.known out.old; faults = O.faults out.old })
         (record { known = O.known out.new; faults = O.faults out.new }) answer }
-    ensures kept { F.known files.new ≡ F.known files.old }
+    ensures told { V.told solver.new ≡ V.told solver.old }
 {
-    let answer = answer_of(alloc, words, files);
+    let answer = answer_of(alloc, words, files, solver);
     tell(alloc, &answer, out)
 }
 
 /// The answer to the words.
-fn answer_of<F: Files>(alloc: Global, words: &Argv, files: &mut F) -> Answer
+fn answer_of<F: Files, V: Solver>(
+    alloc: Global,
+    words: &Argv,
+    files: &mut F,
+    solver: &mut V,
+) -> Answer
     ensures cause { IsCause words.now
+        (record { told = V.told solver.old; proposals = V.proposals solver.old })
+        (record { told = V.told solver.new; proposals = V.proposals solver.new })
         (record { known = F.known files.old; counts = F.counts files.old })
         (record { known = F.known files.new; counts = F.counts files.new }) result }
-    ensures kept { F.known files.new ≡ F.known files.old }
+    ensures told { V.told solver.new ≡ V.told solver.old }
 {
     words_have_one_command();
     match read(alloc, words) {
@@ -120,9 +179,22 @@ fn answer_of<F: Files>(alloc: Global, words: &Argv, files: &mut F) -> Answer
                 certificate,
             },
         ) => check(alloc, files, netlist.as_str(), certificate.as_str()),
+        Ok(
+            Command::Solve {
+                netlist,
+                certificate,
+                report,
+            },
+        ) => solve(
+            alloc,
+            files,
+            netlist.as_str(),
+            certificate.as_str(),
+            report.as_str(),
+            solver,
+        ),
         // These are not made yet.
         Ok(Command::Build { .. }) => Answer::Usage,
-        Ok(Command::Solve { .. }) => Answer::Usage,
         Ok(Command::Generate { .. }) => Answer::Usage,
         Err(WordsError::Usage) => Answer::Usage,
         Err(WordsError::Want) => Answer::Want,
@@ -158,13 +230,19 @@ fn print<O: Sink>(out: &mut O, line: &[u8], status: u8) -> u8
 }
 
 /// Where it is known what the files hold and no count stands at its last value, one answer alone, want of memory aside,
-/// has its cause: so each of them comes exactly where its cause holds.
+/// has its cause: so each of them comes exactly where its cause holds. Of `solve` this leaves open the number of sweeps.
 pub fn one_answer_has_its_cause()
-    ensures { (words : List (List ℕ)) (before after : FilesThen) (held : Holdings) (a b : Told)
-        → before.known ≡ Some held → CanRise after.counts
-        → IsCause words before after a → IsCause words before after b
+    ensures one { (words : List (List ℕ)) (solver solver' : SolverThen) (before after : FilesThen) (held : Holdings)
+        (a b : Told) → before.known ≡ Some held → CanRise after.counts → IsNotSolve words
+        → IsCause words solver solver' before after a → IsCause words solver solver' before after b
         → a ≢ Want → b ≢ Want → a ≡ b }
+    ensures solved { (words : List (List ℕ)) (solver solver' : SolverThen) (before after : FilesThen) (held : Holdings)
+        (netlist certificate report : List ℕ) (a b : Told) → before.known ≡ Some held → CanRise after.counts
+        → IsSolve words netlist certificate report
+        → IsCause words solver solver' before after a → IsCause words solver solver' before after b
+        → a ≢ Want → b ≢ Want → AreAlike a b }
 {
     texts_are_judged_once();
+    netlists_are_solved_once();
     words_have_one_command();
 }

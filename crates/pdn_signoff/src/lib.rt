@@ -4,8 +4,12 @@
 
 mod check;
 mod command;
+mod solve;
+mod unread;
 
 pub use command::{one_answer_has_its_cause, run};
 
+#[cfg(test)]
+mod solve_tests;
 #[cfg(test)]
 mod tests;

@@ -3,6 +3,7 @@ ghost use Rattle.std.specs.Prelude.{None};
 ghost use Rattle.outside.specs.Calls.{counts_of};
 
 use crate::run;
+use grid_net::Fixed;
 use outside::{Argv, Files, MemFiles, MemSink, Name, Refusal};
 use std::alloc::{AllocError, Global};
 use std::process::Abort;
@@ -84,7 +85,8 @@ fn ends(
     };
     let mut out = MemSink::new(alloc, vec![in alloc; failing_write]?)?;
     let words = argv(alloc, words)?;
-    let found = run(alloc, &words, &mut files, &mut out);
+    let mut solver = Fixed::new(Vec::new(alloc), Vec::new(alloc));
+    let found = run(alloc, &words, &mut files, &mut out, &mut solver);
     assert_eq!(rt; found, status);
     assert_eq!(rt; out.bytes(), line);
     Ok(())
@@ -323,7 +325,8 @@ fn usage(rt: HostRuntime) -> Result<(), Fail> {
         "check",
         "",
         "solve|--netlist|net|--certificate|cert",
-        "solve|--netlist|net|--certificate|out|--report|report",
+        "solve|--netlist|net|--certificate|out|--report|out",
+        "generate|--number|1|--side|24|--lef|a|--cells|b|--def|c|--pdn|d|--bias|e",
         "check|--netlist|net|--netlist|net",
         "check|--netlist|net",
         "check|--netlist||--certificate|cert",

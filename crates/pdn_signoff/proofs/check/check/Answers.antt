@@ -3,7 +3,7 @@ use Rattle.outside.specs.Files.{Holdings, bytes_in}
 use Rattle.outside.specs.Whole.{longest_text}
 use Rattle.judging.specs.Judging.{Judges}
 use Rattle.pdn_signoff.specs.Check.{FilesThen, AreTexts, Answers}
-use Rattle.pdn_signoff.proofs.Unread.{AreOfTexts, certificate_unread, fits_read, judged_files}
+use Rattle.pdn_signoff.proofs.Unread.{certificate_unread, fits_read, judged_files}
 use Rattle.pdn_signoff.proofs.check.check.Goals as goal
 
 pub returns-in-Err-read_whole-clause-answers : goal.returns-in-Err-read_whole-clause-answers
@@ -29,11 +29,6 @@ returns-clause-answers g c =
     let m = c.args.certificate.now in
     let nt = c.in-Ok.text.items in
     let ct = c.in-Ok-read_whole.text.items in
-    let laws : AreOfTexts = record {
-      not_usage = c.answers_to_texts.ensures.not_usage;
-      not_read_fault = c.answers_to_texts.ensures.not_read_fault;
-      not_too_long = c.answers_to_texts.ensures.not_too_long;
-    } in
     let judged : Judges n m nt ct c.judge.result =
     subst (λ (t : List ℕ). Judges n m t ct c.judge.result) c.deref.ensures.value
     (subst (λ (t : List ℕ). Judges n m c.deref.result.now t c.judge.result) c.deref-2.ensures.value c.judge.ensures) in
@@ -43,4 +38,4 @@ returns-clause-answers g c =
       certificate_is = subst (λ (o : Option Holdings). IfSome o (λ held. ct ≡ bytes_in held m)) c.in-Ok.ensures.kept c.in-Ok-read_whole.ensures.bytes;
       certificate_fits = omega (arith, c.in-Ok-read_whole.ensures.within, c.in-Ok-read_whole.text.ok);
     } in
-    judged_files laws before after n m nt ct c.judge.result (c.in-Ok-read_whole.ensures.calm ∙ c.in-Ok.ensures.calm) texts judged
+    judged_files c.answers_to_texts.ensures.sort before after n m nt ct c.judge.result (c.in-Ok-read_whole.ensures.calm ∙ c.in-Ok.ensures.calm) texts judged

@@ -1,10 +1,11 @@
-use Rattle.std.proofs.Common.{inl, inr, refl}
+use Rattle.std.proofs.Common.{inl, inr}
 use Rattle.answers.specs.declared.answer.Answer.TheVariants.{Want}
+use Rattle.pdn_signoff.proofs.Solving.{want_too}
 use Rattle.pdn_signoff.proofs.command.run_command.Goals as goal
 
 pub returns-clause-answer : goal.returns-clause-answer
 returns-clause-answer g c =
     elim c.tell.ensures [
       | inl told ↦ (c.answer_of-answer.result, c.answer_of-answer.ensures.cause, told)
-      | inr want ↦ (Want, inl (inl refl), want)
+      | inr want ↦ (Want, want_too _ _ _ _ _ _ c.answer_of-answer.ensures.cause, want)
     ]

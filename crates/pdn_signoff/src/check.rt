@@ -2,7 +2,7 @@
 ghost use Rattle.std.specs.Prelude.{◌≡◌};
 ghost use Rattle.pdn_signoff.specs.Check.{Answers};
 
-use crate::unread::unread;
+use crate::faults::unread;
 use answers::Answer;
 use judging::{answers_to_texts, judge};
 use outside::{Files, LONGEST_TEXT, read_whole};

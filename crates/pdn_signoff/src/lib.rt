@@ -4,8 +4,8 @@
 
 mod check;
 mod command;
+mod faults;
 mod solve;
-mod unread;
 
 pub use command::{one_answer_has_its_cause, run};
 

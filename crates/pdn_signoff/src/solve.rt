@@ -1,14 +1,12 @@
 //! The command `solve`: a netlist is read and signed off, and the certificate and the report are written.
-ghost use Rattle.std.specs.Prelude.{◌≡◌, ◌≢◌, ◌⊎◌};
-ghost use Rattle.outside.specs.Counts.{Rose};
-ghost use Rattle.answers.specs.declared.answer.Answer.TheVariants.{Want};
+ghost use Rattle.std.specs.Prelude.{◌≡◌, ◌≢◌};
 ghost use Rattle.pdn_signoff.specs.Solve.{Solves};
-ghost use Rattle.pdn_signoff.specs.inside.Solve.{Writes, unwritten_answer};
+ghost use Rattle.pdn_signoff.specs.inside.Solve.{Writes};
 
-use crate::unread::unread;
+use crate::faults::{unread, unwritten};
 use answers::Answer;
 use grid_net::Solver;
-use outside::{Files, LONGEST_TEXT, Name, WriteError, read_whole, write_whole};
+use outside::{Files, LONGEST_TEXT, read_whole, write_whole};
 use solving::{Signed, netlists_are_solved_once, sign_off};
 use std::alloc::Global;
 
@@ -65,18 +63,5 @@ fn write_signed<F: Files>(
         nodes: signed.nodes,
         resistors: signed.resistors,
         sweeps: signed.sweeps,
-    }
-}
-
-/// The answer to a file that was not written.
-fn unwritten(alloc: Global, error: WriteError, file: &str) -> Answer
-    ensures { (result ≡ Want) ⊎ (result ≡ unwritten_answer error file.now) }
-{
-    let Ok(file) = Name::new(alloc, file.as_bytes()) else {
-        return Answer::Want;
-    };
-    match error {
-        WriteError::WriteFault => Answer::WriteFault(file),
-        WriteError::Want => Answer::Want,
     }
 }

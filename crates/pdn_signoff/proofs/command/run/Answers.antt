@@ -1,81 +1,108 @@
+use Rattle.pdn_signoff.specs.Solve.{SolverThen}
 use Rattle.pdn_signoff.proofs.Causes.{AreLaws, not_solve, ran_other, kept, calm, usage, refused, certified, judged, bounded}
 use Rattle.pdn_signoff.proofs.Signing.{AreSolvingLaws, others, signed, asked, solved}
 use Rattle.pdn_signoff.proofs.command.run.Goals as goal
 
 pub returns-clause-kept : goal.returns-clause-kept
-returns-clause-kept g c = kept _ _ _ _ _ _ _ _ c.run_command.ensures.answer
+returns-clause-kept g c =
+    let s : SolverThen = record { told = g.V.Solver.told c.args.solver.now; proposals = g.V.Solver.proposals c.args.solver.now } in
+    let s' : SolverThen = record { told = g.V.Solver.told c.run_command.new.solver; proposals = g.V.Solver.proposals c.run_command.new.solver } in
+    kept _ s s' _ _ _ _ _ c.run_command.ensures.answer
 
 pub returns-clause-others : goal.returns-clause-others
 returns-clause-others g c =
+    let s : SolverThen = record { told = g.V.Solver.told c.args.solver.now; proposals = g.V.Solver.proposals c.args.solver.now } in
+    let s' : SolverThen = record { told = g.V.Solver.told c.run_command.new.solver; proposals = g.V.Solver.proposals c.run_command.new.solver } in
     let laws : AreLaws = record {
       one = c.texts_are_judged_once.ensures.one;
       tested = c.texts_are_judged_once.ensures.tested;
       bounded = c.texts_are_judged_once.ensures.bounded;
       one_command = c.words_have_one_command.ensures;
     } in
-    others laws _ _ _ _ _ _ _ _ c.run_command.ensures.answer
+    others laws _ s s' _ _ _ _ _ c.run_command.ensures.answer
 
 pub returns-clause-calm : goal.returns-clause-calm
-returns-clause-calm g c = calm _ _ _ _ _ _ _ _ c.run_command.ensures.answer
+returns-clause-calm g c =
+    let s : SolverThen = record { told = g.V.Solver.told c.args.solver.now; proposals = g.V.Solver.proposals c.args.solver.now } in
+    let s' : SolverThen = record { told = g.V.Solver.told c.run_command.new.solver; proposals = g.V.Solver.proposals c.run_command.new.solver } in
+    calm _ s s' _ _ _ _ _ c.run_command.ensures.answer
 
 pub returns-clause-usage : goal.returns-clause-usage
-returns-clause-usage g c = usage _ _ _ _ _ _ _ _ c.run_command.ensures.answer
+returns-clause-usage g c =
+    let s : SolverThen = record { told = g.V.Solver.told c.args.solver.now; proposals = g.V.Solver.proposals c.args.solver.now } in
+    let s' : SolverThen = record { told = g.V.Solver.told c.run_command.new.solver; proposals = g.V.Solver.proposals c.run_command.new.solver } in
+    usage _ s s' _ _ _ _ _ c.run_command.ensures.answer
 
 pub returns-clause-refused : goal.returns-clause-refused
-returns-clause-refused g c = refused _ _ _ _ _ _ _ _ c.run_command.ensures.answer
+returns-clause-refused g c =
+    let s : SolverThen = record { told = g.V.Solver.told c.args.solver.now; proposals = g.V.Solver.proposals c.args.solver.now } in
+    let s' : SolverThen = record { told = g.V.Solver.told c.run_command.new.solver; proposals = g.V.Solver.proposals c.run_command.new.solver } in
+    refused _ s s' _ _ _ _ _ c.run_command.ensures.answer
 
 pub returns-clause-certified : goal.returns-clause-certified
 returns-clause-certified g c netlist certificate is =
+    let s : SolverThen = record { told = g.V.Solver.told c.args.solver.now; proposals = g.V.Solver.proposals c.args.solver.now } in
+    let s' : SolverThen = record { told = g.V.Solver.told c.run_command.new.solver; proposals = g.V.Solver.proposals c.run_command.new.solver } in
     let laws : AreLaws = record {
       one = c.texts_are_judged_once.ensures.one;
       tested = c.texts_are_judged_once.ensures.tested;
       bounded = c.texts_are_judged_once.ensures.bounded;
       one_command = c.words_have_one_command.ensures;
     } in
-    certified c.answers_to_texts.ensures.certified _ _ _ _ _ _ (ran_other _ _ _ _ _ _ _ _ (not_solve laws _ netlist certificate is) c.run_command.ensures.answer)
+    certified c.answers_to_texts.ensures.certified _ _ _ _ _ _ (ran_other _ s s' _ _ _ _ _ (not_solve laws _ netlist certificate is) c.run_command.ensures.answer)
 
 pub returns-clause-judged : goal.returns-clause-judged
 returns-clause-judged g c held named merged lists known whole =
+    let s : SolverThen = record { told = g.V.Solver.told c.args.solver.now; proposals = g.V.Solver.proposals c.args.solver.now } in
+    let s' : SolverThen = record { told = g.V.Solver.told c.run_command.new.solver; proposals = g.V.Solver.proposals c.run_command.new.solver } in
     let laws : AreLaws = record {
       one = c.texts_are_judged_once.ensures.one;
       tested = c.texts_are_judged_once.ensures.tested;
       bounded = c.texts_are_judged_once.ensures.bounded;
       one_command = c.words_have_one_command.ensures;
     } in
-    judged laws c.no_failing_test.ensures.none _ _ _ _ _ _ (ran_other _ _ _ _ _ _ _ _ (not_solve laws _ whole.netlist whole.certificate whole.words_are) c.run_command.ensures.answer) held named merged lists known whole
+    judged laws c.no_failing_test.ensures.none _ _ _ _ _ _ (ran_other _ s s' _ _ _ _ _ (not_solve laws _ whole.netlist whole.certificate whole.words_are) c.run_command.ensures.answer) held named merged lists known whole
 
 pub returns-clause-bounded : goal.returns-clause-bounded
 returns-clause-bounded g c held named merged lists known whole =
+    let s : SolverThen = record { told = g.V.Solver.told c.args.solver.now; proposals = g.V.Solver.proposals c.args.solver.now } in
+    let s' : SolverThen = record { told = g.V.Solver.told c.run_command.new.solver; proposals = g.V.Solver.proposals c.run_command.new.solver } in
     let laws : AreLaws = record {
       one = c.texts_are_judged_once.ensures.one;
       tested = c.texts_are_judged_once.ensures.tested;
       bounded = c.texts_are_judged_once.ensures.bounded;
       one_command = c.words_have_one_command.ensures;
     } in
-    bounded laws _ _ _ _ _ _ (ran_other _ _ _ _ _ _ _ _ (not_solve laws _ whole.netlist whole.certificate whole.words_are) c.run_command.ensures.answer) held named merged lists known whole
+    bounded laws _ _ _ _ _ _ (ran_other _ s s' _ _ _ _ _ (not_solve laws _ whole.netlist whole.certificate whole.words_are) c.run_command.ensures.answer) held named merged lists known whole
 
 pub returns-clause-signed : goal.returns-clause-signed
 returns-clause-signed g c =
+    let s : SolverThen = record { told = g.V.Solver.told c.args.solver.now; proposals = g.V.Solver.proposals c.args.solver.now } in
+    let s' : SolverThen = record { told = g.V.Solver.told c.run_command.new.solver; proposals = g.V.Solver.proposals c.run_command.new.solver } in
     let laws : AreLaws = record {
       one = c.texts_are_judged_once.ensures.one;
       tested = c.texts_are_judged_once.ensures.tested;
       bounded = c.texts_are_judged_once.ensures.bounded;
       one_command = c.words_have_one_command.ensures;
     } in
-    signed laws _ _ _ _ _ _ _ _ c.run_command.ensures.answer
+    signed laws _ s s' _ _ _ _ _ c.run_command.ensures.answer
 
 pub returns-clause-asked : goal.returns-clause-asked
 returns-clause-asked g c =
+    let s : SolverThen = record { told = g.V.Solver.told c.args.solver.now; proposals = g.V.Solver.proposals c.args.solver.now } in
+    let s' : SolverThen = record { told = g.V.Solver.told c.run_command.new.solver; proposals = g.V.Solver.proposals c.run_command.new.solver } in
     let laws : AreLaws = record {
       one = c.texts_are_judged_once.ensures.one;
       tested = c.texts_are_judged_once.ensures.tested;
       bounded = c.texts_are_judged_once.ensures.bounded;
       one_command = c.words_have_one_command.ensures;
     } in
-    asked laws _ _ _ _ _ _ _ _ c.run_command.ensures.answer
+    asked laws _ s s' _ _ _ _ _ c.run_command.ensures.answer
 
 pub returns-clause-solved : goal.returns-clause-solved
 returns-clause-solved g c =
+    let s : SolverThen = record { told = g.V.Solver.told c.args.solver.now; proposals = g.V.Solver.proposals c.args.solver.now } in
+    let s' : SolverThen = record { told = g.V.Solver.told c.run_command.new.solver; proposals = g.V.Solver.proposals c.run_command.new.solver } in
     let laws : AreLaws = record {
       one = c.texts_are_judged_once.ensures.one;
       tested = c.texts_are_judged_once.ensures.tested;
@@ -83,4 +110,4 @@ returns-clause-solved g c =
       one_command = c.words_have_one_command.ensures;
     } in
     let solving : AreSolvingLaws = record { refusal = c.netlists_are_solved_once.ensures.refusal; supply = c.netlists_are_solved_once.ensures.supply; network = c.netlists_are_solved_once.ensures.network } in
-    solved laws solving _ _ _ _ _ _ _ _ c.run_command.ensures.answer
+    solved laws solving _ s s' _ _ _ _ _ c.run_command.ensures.answer

@@ -40,8 +40,8 @@ returns-in-Ok-sign_off-clause-solves g c =
     subst (λ (f : FilesThen). Writes f after c.args.certificate.now c.args.report.now signed c.write_signed.result) (same_files mid before c.in-Ok.ensures.kept c.in-Ok.ensures.calm) c.write_signed.ensures in
     texts_written solver solver' before after c.args.netlist.now c.args.certificate.now c.args.report.now signed file (c.in-Ok-sign_off.ensures.asked refl) c.write_signed.result written
 
-pub returns-in-Err-sign_off-clause-solves : goal.returns-in-Err-sign_off-clause-solves
-returns-in-Err-sign_off-clause-solves g c =
+pub returns-clause-solves : goal.returns-clause-solves
+returns-clause-solves g c =
     let solver : SolverThen = record { told = g.V.Solver.told c.args.solver.now; proposals = g.V.Solver.proposals c.args.solver.now } in
     let solver' : SolverThen = record { told = g.V.Solver.told c.sign_off.new.solver; proposals = g.V.Solver.proposals c.sign_off.new.solver } in
     let before : FilesThen = record { known = g.F.Files.known c.args.files.now; counts = g.F.Files.counts c.args.files.now } in

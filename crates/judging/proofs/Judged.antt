@@ -252,6 +252,7 @@ bounded laws principle file_n file_c nt ct named merged lists nodes texts (inr (
 network_is : (r : NetRefusal) → IsToNetlist (network_answer r)
 network_is (net.Range quantity at number) = tt
 network_is (net.PadConflict node first second) = tt
+
 netlist_is : (file : List ℕ) (place : Place) (k : SpiceKind) → IsToNetlist (netlist_answer file place k)
 netlist_is file place spice.Syntax = tt
 netlist_is file place spice.OutOfProfileCard = tt

@@ -13,11 +13,7 @@ use std::alloc::Global;
 /// Reads the text of a netlist, whose file has this name, and merges its shorts.
 ///
 /// Error: the answer to a text that is refused, to two pads of a group that differ, or to want of memory.
-pub fn read_network(
-    alloc: Global,
-    netlist: &str,
-    netlist_text: &[u8],
-) -> Result<Merged, Answer>
+pub fn read_network(alloc: Global, netlist: &str, netlist_text: &[u8]) -> Result<Merged, Answer>
     ensures network { IfOk result (λ merged. (named : Netlist) × GivesNetwork netlist_text.now named merged) }
     ensures names { IfOk result (λ merged. length merged.names ≡ merged.net.nodes) }
     ensures refused { IfErr result (λ answer. HasNoNetwork netlist.now netlist_text.now answer) }

@@ -37,11 +37,5 @@ fn main(rt: HostRuntime) -> ExitCode {
     let mut files = StdFiles::new(alloc, &rt);
     let mut out = StdSink::new(&rt);
     let mut solver = Plain::new();
-    ExitCode::from(pdn_signoff::run(
-        alloc,
-        &words,
-        &mut files,
-        &mut out,
-        &mut solver,
-    ))
+    ExitCode::from(pdn_signoff::run(alloc, &words, &mut files, &mut out, &mut solver))
 }

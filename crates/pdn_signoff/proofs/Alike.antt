@@ -144,15 +144,18 @@ module _ (laws : AreSolvingLaws) (before after : FilesThen) (held : Holdings) (n
   stage_of solver solver' (Unsupplied node) some why = short_stage (Unsupplied node) some why
   stage_of solver solver' (Solved nodes resistors sweeps) some (signed, file, none, numbers, asked, holds) =
       let e : file.text ≡ text = of_held (λ h. file.text ≡ bytes_in h n) before.known held known file.text_is in
-      inr (inr (none, inr (inr (record {
-        fits = subst (λ t. length t ≤ longest_text) e file.fits;
-        named = file.named;
-        merged = file.merged;
-        network = subst (λ t. HasNetwork t file.named file.merged) e file.signs.gives.network;
-        supplied = file.signs.supplied;
-        sweeps = sweeps;
-        told = ap (λ x. Solved x resistors sweeps) (numbers.nodes_are ∙ file.signs.nodes) ∙ ap (λ x. Solved file.merged.net.nodes x sweeps) (numbers.resistors_are ∙ file.signs.resistors);
-      }))))
+      inr (inr (
+        none,
+        inr (inr (record {
+          fits = subst (λ t. length t ≤ longest_text) e file.fits;
+          named = file.named;
+          merged = file.merged;
+          network = subst (λ t. HasNetwork t file.named file.merged) e file.signs.gives.network;
+          supplied = file.signs.supplied;
+          sweeps = sweeps;
+          told = ap (λ x. Solved x resistors sweeps) (numbers.nodes_are ∙ file.signs.nodes) ∙ ap (λ x. Solved file.merged.net.nodes x sweeps) (numbers.resistors_are ∙ file.signs.resistors);
+        })),
+      ))
   stage_of solver solver' (Certified nodes) some why = absurd why
   stage_of solver solver' (NotCertified node side found) some why = absurd why
 

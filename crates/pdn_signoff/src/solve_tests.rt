@@ -35,10 +35,7 @@ fn argv(alloc: Global, words: &str) -> Result<Argv, AllocError> {
 
 /// A solver that tells these two voltages for the node n, and those of the pad p.
 fn solver(alloc: Global, high: i128, low: i128) -> Result<Fixed, AllocError> {
-    Ok(Fixed::new(
-        vec![in alloc; high, VOLT]?,
-        vec![in alloc; low, VOLT]?,
-    ))
+    Ok(Fixed::new(vec![in alloc; high, VOLT]?, vec![in alloc; low, VOLT]?))
 }
 
 /// What a run with these words answers and prints over this netlist, and what the two outputs hold then, where this call on
@@ -58,7 +55,12 @@ struct Row<'a> {
 fn holds(rt: &(impl Abort + AllocGlobal), row: &Row<'_>) -> Result<(), AllocError> {
     let alloc = rt.alloc();
     let failing = vec![in alloc; (Name::new(alloc, row.failing.0.as_bytes())?, row.failing.1)]?;
-    let held = vec![in alloc; (Name::new(alloc, b"net")?, Vec::from_slice(alloc, row.netlist)?)]?;
+    let held = vec![in alloc;
+        (
+            Name::new(alloc, b"net")?,
+            Vec::from_slice(alloc, row.netlist)?
+        ),
+    ]?;
     let mut files = MemFiles::new(alloc, held, failing)?;
     let mut out = MemSink::new(alloc, vec![in alloc; row.failing_write]?)?;
     let mut solver = solver(
@@ -70,7 +72,10 @@ fn holds(rt: &(impl Abort + AllocGlobal), row: &Row<'_>) -> Result<(), AllocErro
     let found = run(alloc, &words, &mut files, &mut out, &mut solver);
     assert_eq!(rt; found, row.status);
     assert_eq!(rt; out.bytes(), row.line);
-    assert!(rt; files.bytes("net") == Some(row.netlist), "the netlist stays");
+    assert!(rt;
+        files.bytes("net") == Some(row.netlist),
+        "the netlist stays"
+    );
     assert!(rt; files.bytes("cert") == row.certificate, "the certificate");
     assert!(rt; files.bytes("report") == row.report, "the report");
     Ok(())
@@ -247,8 +252,24 @@ fn a_fault_of_writing(rt: HostRuntime) -> Result<(), Fail> {
     let whole = Some(CERTIFICATE);
     failing(&rt, "cert", 1, 0, b"pdn: WriteFault cert\n", None, None)?;
     failing(&rt, "cert", 2, 0, b"pdn: WriteFault cert\n", empty, None)?;
-    failing(&rt, "report", 1, 0, b"pdn: WriteFault report\n", whole, None)?;
-    failing(&rt, "report", 2, 0, b"pdn: WriteFault report\n", whole, empty)?;
+    failing(
+        &rt,
+        "report",
+        1,
+        0,
+        b"pdn: WriteFault report\n",
+        whole,
+        None,
+    )?;
+    failing(
+        &rt,
+        "report",
+        2,
+        0,
+        b"pdn: WriteFault report\n",
+        whole,
+        empty,
+    )?;
     Ok(())
 }
 
@@ -275,10 +296,39 @@ fn earlier_causes_come_first(rt: HostRuntime) -> Result<(), Fail> {
     holds(&rt, &row)?;
     // The netlist cannot be read, and its text is refused; its text is refused, and an output cannot be made; a node has no
     // supply, and an output cannot be made.
-    holds(&rt, &Row { words: WORDS, netlist: b"R1\n", status: 3, line: b"pdn: ReadFault net\n", ..row })?;
-    let row = Row { words: WORDS, failing: ("cert", 1), ..row };
-    holds(&rt, &Row { netlist: b"R1 a\n", status: 4, line: b"pdn: net:2:1: Syntax\n", ..row })?;
-    holds(&rt, &Row { netlist: b"R1 a b 1\n.end\n", status: 7, line: b"pdn: Unsupplied a\n", ..row })?;
+    holds(
+        &rt,
+        &Row {
+            words: WORDS,
+            netlist: b"R1\n",
+            status: 3,
+            line: b"pdn: ReadFault net\n",
+            ..row
+        },
+    )?;
+    let row = Row {
+        words: WORDS,
+        failing: ("cert", 1),
+        ..row
+    };
+    holds(
+        &rt,
+        &Row {
+            netlist: b"R1 a\n",
+            status: 4,
+            line: b"pdn: net:2:1: Syntax\n",
+            ..row
+        },
+    )?;
+    holds(
+        &rt,
+        &Row {
+            netlist: b"R1 a b 1\n.end\n",
+            status: 7,
+            line: b"pdn: Unsupplied a\n",
+            ..row
+        },
+    )?;
     Ok(())
 }
 
@@ -293,7 +343,10 @@ fn a_bad_proposal_is_solved(rt: HostRuntime) -> Result<(), Fail> {
     let words = argv(alloc, WORDS)?;
     let found = run(alloc, &words, &mut files, &mut out, &mut solver);
     assert_eq!(rt; found, 0);
-    assert!(rt; files.bytes("report") == Some(REPORT), "the tightness allows no other digits");
+    assert!(rt;
+        files.bytes("report") == Some(REPORT),
+        "the tightness allows no other digits"
+    );
     let words = argv(alloc, "check|--netlist|net|--certificate|cert")?;
     let mut out = MemSink::new(alloc, Vec::new(alloc))?;
     let found = run(alloc, &words, &mut files, &mut out, &mut solver);

@@ -54,12 +54,12 @@ module _ (laws : AreGroupLaws) (text : List ℕ) (named : Named) (merged : Merge
   pub within : LieWithinReport named merged c
   within = record {
     voltages = λ q p currents drawn shorted solution node below.
-    let g = get_or merged.group node 0 in
-    subst (λ z. LiesWithin nanovolt q z (shown_voltage c g)) (sym (laws.at_nodes named.net named.shorts merged.group merge.firsts q p currents drawn shorted merge.groups solution node below))
-    (holds.voltages q (group_potential merge.firsts p) currents (group_drawn named.net.nodes merged.group drawn) (solves q p currents drawn shorted solution) g (is_group node below));
+        let g = get_or merged.group node 0 in
+        subst (λ z. LiesWithin nanovolt q z (shown_voltage c g)) (sym (laws.at_nodes named.net named.shorts merged.group merge.firsts q p currents drawn shorted merge.groups solution node below))
+        (holds.voltages q (group_potential merge.firsts p) currents (group_drawn named.net.nodes merged.group drawn) (solves q p currents drawn shorted solution) g (is_group node below));
     currents = λ q p currents drawn shorted solution k below.
-    subst (λ (n : Network). LiesWithin nanoampere q (currents k) (shown_current c (resistor_at n k))) same
-    (holds.currents q (group_potential merge.firsts p) currents (group_drawn named.net.nodes merged.group drawn) (solves q p currents drawn shorted solution) k (is_branch k below));
+        subst (λ (n : Network). LiesWithin nanoampere q (currents k) (shown_current c (resistor_at n k))) same
+        (holds.currents q (group_potential merge.firsts p) currents (group_drawn named.net.nodes merged.group drawn) (solves q p currents drawn shorted solution) k (is_branch k below));
   }
 
 -- What certification promises of its lists.

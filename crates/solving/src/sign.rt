@@ -53,11 +53,7 @@ pub fn sign_off<V: Solver>(
 }
 
 /// Signs off the network of the groups of a netlist.
-fn sign_network<V: Solver>(
-    alloc: Global,
-    merged: Merged,
-    solver: &mut V,
-) -> Result<Signed, Answer>
+fn sign_network<V: Solver>(alloc: Global, merged: Merged, solver: &mut V) -> Result<Signed, Answer>
     requires { length merged.names ≡ merged.net.nodes }
     ensures signed { IfOk result (λ signed. (text : List ℕ) (named : Named) → GivesNetwork text named merged
         → (certificate : Certificate) × Signs (V.told solver.old) text named merged certificate signed

@@ -24,8 +24,14 @@ fn a_tight_proposal_is_kept(rt: HostRuntime) -> Result<(), Fail> {
     let Ok(signed) = sign_off(alloc, "net", NETLIST, &mut solver) else {
         panic!(rt; "the netlist is refused");
     };
-    assert_eq!(rt; signed.certificate.as_slice(), b"pdn certificate 1\nn 999000000000101000000000 998999999999899000000000\np 1000000000000000000000000 1000000000000000000000000\nend\n".as_slice());
-    assert_eq!(rt; signed.report.as_slice(), b"pdn report 1\nnode n 0.998999999 0.999000001\nnode p 1.000000000 1.000000000\nbranch R1 p n 0.000999999 0.001000001 none NOLIMIT\nend\n".as_slice());
+    assert_eq!(rt;
+        signed.certificate.as_slice(),
+        b"pdn certificate 1\nn 999000000000101000000000 998999999999899000000000\np 1000000000000000000000000 1000000000000000000000000\nend\n".as_slice()
+    );
+    assert_eq!(rt;
+        signed.report.as_slice(),
+        b"pdn report 1\nnode n 0.998999999 0.999000001\nnode p 1.000000000 1.000000000\nbranch R1 p n 0.000999999 0.001000001 none NOLIMIT\nend\n".as_slice()
+    );
     assert_eq!(rt; signed.nodes, 2);
     assert_eq!(rt; signed.resistors, 1);
     assert_eq!(rt; signed.sweeps, 0);
@@ -33,11 +39,7 @@ fn a_tight_proposal_is_kept(rt: HostRuntime) -> Result<(), Fail> {
 }
 
 /// The line to which the text of a netlist is answered that is not signed off.
-fn refused(
-    rt: &(impl Abort + AllocGlobal),
-    netlist: &[u8],
-    line: &[u8],
-) -> Result<(), AllocError> {
+fn refused(rt: &(impl Abort + AllocGlobal), netlist: &[u8], line: &[u8]) -> Result<(), AllocError> {
     let alloc = rt.alloc();
     let mut solver = tight(alloc)?;
     match sign_off(alloc, "net", netlist, &mut solver) {
@@ -52,7 +54,11 @@ fn refused(
 
 #[test]
 fn refusals_have_their_lines(rt: HostRuntime) -> Result<(), Fail> {
-    refused(&rt, b"R1 a b 1\nR2 c d 1\nV1 a 0 1\n.end\n", b"pdn: Unsupplied c\n")?;
+    refused(
+        &rt,
+        b"R1 a b 1\nR2 c d 1\nV1 a 0 1\n.end\n",
+        b"pdn: Unsupplied c\n",
+    )?;
     refused(&rt, b"R1 p n 1\nV1 p 0\n", b"pdn: net:3:1: Syntax\n")?;
     refused(
         &rt,

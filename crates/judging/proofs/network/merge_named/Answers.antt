@@ -8,7 +8,7 @@ returns-in-Ok-clause-network c text reads =
       network = record { netlist = reads; agree = c.in-Ok.ensures.agree refl; merge = c.in-Ok.ensures.merged };
       keeps = c.requires;
       built = c.merge.ensures.built;
-      groups_built = c.nodes.ensures.built;
+      groups_built = c.nodes-nodes.ensures.built;
     }
 
 pub returns-in-Err-clause-refused : goal.returns-in-Err-clause-refused

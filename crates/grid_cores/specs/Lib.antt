@@ -1,0 +1,4 @@
+pub mod Core
+pub mod Line
+pub mod Owner
+pub mod inside

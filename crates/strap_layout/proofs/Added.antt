@@ -1,14 +1,14 @@
 -- One strap after another, in the order of the lines.
 use Rattle.std.proofs.Common.{◌≡◌, ℕ, ◌+◌, ◌<◌, ◌≤◌, ◌⊎◌, inl, inr, List, [], ◌∷◌, ◌++◌, length, Contains, subst, refl, sym, ap, ◌∙◌, arith}
 use Rattle.std.proofs.lemmas.Bool.{cases_lt}
-use Rattle.std.proofs.lemmas.List.{map_push}
+use Rattle.std.proofs.lemmas.List.{map_push, length-map, length-append}
 use Rattle.std.proofs.lemmas.List.Elements.{All-push, All-weaker, Contains-append_left, Contains-push}
 use Rattle.std.proofs.lemmas.List.Quantifiers.{all_pairs_push}
 use Rattle.geom_rect.specs.declared.drawn.Drawn.{Drawn}
 use Rattle.geom_rect.specs.declared.rect.Rect.{Rect}
 use Rattle.geom_rect.specs.declared.run.Run.{Run}
 use Rattle.strap_layout.specs.declared.rule.StrapRule.{StrapRule}
-use Rattle.strap_layout.specs.Lines.{LineAt, line_at, IsDrawnLine, ComesBefore, strap_of, AreStrapsOf, AreStraps}
+use Rattle.strap_layout.specs.Lines.{LineAt, line_at, IsDrawnLine, ComesBefore, strap_of, AreStrapsOf, AreStraps, DrawsMore}
 use Rattle.strap_layout.specs.inside.Lines.{AreStrapsBefore}
 
 -- the same lines by another property
@@ -121,3 +121,17 @@ pub AreStrapsBefore-all : (rule : StrapRule) (core : Rect) (reach : List Run) (s
     → AreStrapsBefore rule core reach (line_at count 0) straps → AreStraps rule core reach straps
 AreStrapsBefore-all rule core reach straps count all =
     same_lines _ _ rule core reach straps (λ line p. p.0) (λ line drawn. (drawn, inl (let net = drawn.net in omega arith)))
+
+-- Where as many stand as may, and one more line is drawn, the rule draws more.
+pub DrawsMore-next : (rule : StrapRule) (core : Rect) (reach : List Run) (straps : List Drawn) (place number most : ℕ) → IsDrawnLine rule core (line_at place number)
+    → most ≤ length straps → AreStrapsBefore rule core reach (line_at place number) straps → DrawsMore most rule core
+DrawsMore-next rule core reach straps place number most drawn full are =
+    let last : LineAt = line_at place number in
+    let many : length straps ≡ length are.lines = ap length are.drawn ∙ length-map are.lines (strap_of rule core reach) in
+    let longer : length (are.lines ++ last ∷ []) ≡ length are.lines + 1 = length-append are.lines (last ∷ []) in
+    record {
+      lines = are.lines ++ last ∷ [];
+      each = All-push (IsDrawnLine rule core) are.lines last (All-weaker (λ (line : LineAt). IsDrawnLine rule core line × ComesBefore line last) (IsDrawnLine rule core) (λ line (p : IsDrawnLine rule core line × ComesBefore line last). p.0) are.lines are.each) drawn;
+      in_order = all_pairs_push ComesBefore are.lines last are.in_order (All-weaker (λ (line : LineAt). IsDrawnLine rule core line × ComesBefore line last) (λ (line : LineAt). ComesBefore line last) (λ line (p : IsDrawnLine rule core line × ComesBefore line last). p.1) are.lines are.each);
+      more = omega arith;
+    }

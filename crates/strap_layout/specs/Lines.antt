@@ -1,6 +1,6 @@
 -- The lines of a strap rule, and the straps that are drawn of them
 -- (OpenROAD PDN manual, add_pdn_stripe: -width, -pitch, -spacing, -offset, -number_of_straps, -nets).
-use Rattle.std.specs.Prelude.{◌≡◌, ℕ, ℤ, pos, ◌+ℤ◌, ◌-ℤ◌, ◌*ℤ◌, ◌≤ℤ◌, ◌<◌, ◌⊎◌, List, All, AllPairs, Contains, length, map, slice_index, slice_index_or, Option, None, Some}
+use Rattle.std.specs.Prelude.{◌≡◌, ℕ, ℤ, pos, ◌+ℤ◌, ◌-ℤ◌, ◌*ℤ◌, ◌≤ℤ◌, ◌<◌, ◌≤◌, ◌⊎◌, List, All, AllPairs, Contains, length, map, slice_index, slice_index_or, Option, None, Some}
 use Rattle.geom_rect.specs.declared.direction.Axis.{Axis}
 use Rattle.geom_rect.specs.declared.direction.Axis.TheVariants.{X, Y}
 use Rattle.geom_rect.specs.declared.drawn.Drawn.{Drawn}
@@ -76,3 +76,14 @@ pub record AreStrapsOf (P : LineAt → Type 0) (rule : StrapRule) (core : Rect) 
 -- the straps of a rule
 abbrev pub AreStraps : StrapRule → Rect → List Run → List Drawn → Type 0
 AreStraps rule core = AreStrapsOf (IsDrawnLine rule core) rule core
+
+-- The straps of a rule, which are at most so many.
+abbrev pub AreStrapsUpTo : ℕ → StrapRule → Rect → List Run → List Drawn → Type 0
+AreStrapsUpTo most rule core reach straps = AreStraps rule core reach straps × (length straps ≤ most)
+
+-- A rule draws more than so many lines.
+pub record DrawsMore (most : ℕ) (rule : StrapRule) (core : Rect) : Type 0 where
+  pub lines : List LineAt
+  pub each : All (IsDrawnLine rule core) lines
+  pub in_order : AllPairs ComesBefore lines
+  pub more : most < length lines

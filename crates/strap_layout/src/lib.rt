@@ -6,5 +6,5 @@ mod rule;
 #[cfg(test)]
 mod tests;
 
-pub use lines::straps;
+pub use lines::{straps, straps_up_to};
 pub use rule::StrapRule;

@@ -1,7 +1,8 @@
-ghost use Rattle.std.specs.Prelude.{◌≡◌, ℕ, pos, ◌+◌, ◌+ℤ◌, ◌*ℤ◌, ◌<ℤ◌, ◌≤ℤ◌, ◌<◌, ◌≤◌, ◌↔◌, ◌^◌, length, IfOk, OnOk};
+ghost use Rattle.std.specs.Prelude.{◌≡◌, ℕ, pos, ◌+◌, ◌+ℤ◌, ◌*ℤ◌, ◌<ℤ◌, ◌≤ℤ◌, ◌<◌, ◌≤◌, ◌↔◌, ◌^◌, length, IfOk, OnOk, MatchOption};
+ghost use Rattle.std.specs.Bool.{MatchBool};
 ghost use Rattle.geom_rect.specs.Drawn.{IsWidth};
-ghost use Rattle.strap_layout.specs.Lines.{across, centre_of, line_at, IsBelowStated, IsDrawnLine, strap_of, AreStraps};
-ghost use Rattle.strap_layout.specs.inside.Lines.{first_centre_of, IsNear, AreStrapsBefore};
+ghost use Rattle.strap_layout.specs.Lines.{across, centre_of, line_at, IsBelowStated, IsDrawnLine, strap_of, AreStraps, DrawsMore, AreStrapsUpTo};
+ghost use Rattle.strap_layout.specs.inside.Lines.{first_centre_of, IsNear, AreStrapsBefore, AreFewBefore};
 
 use crate::rule::StrapRule;
 use geom_rect::{Axis, Drawn, Rect, Run, Shape};
@@ -48,6 +49,59 @@ fn add_lines(
         straps.push(strap(rule, core, reach, place, number))?;
     }
     Ok(())
+}
+
+/// The same where the rule draws at most `most` lines, of all its nets together. None where it draws more.
+pub fn straps_up_to(
+    alloc: Global,
+    rule: &StrapRule,
+    core: Rect,
+    reach: &[Run],
+    most: usize,
+) -> Result<Option<Vec<Drawn>>, AllocError>
+    requires width { IsWidth rule.now.width }
+    requires pitch { pos 0 <ℤ rule.now.pitch }
+    requires reach { length reach.now ≡ length rule.now.nets }
+    ensures { IfOk result (λ answer. MatchOption answer (DrawsMore most rule.now core)
+        (λ straps. AreStrapsUpTo most rule.now core reach.now straps.items)) }
+{
+    let mut straps = Vec::new(alloc);
+    for net_place in 0..reach.len() {
+        if !add_lines_up_to(&mut straps, rule, core, reach, net_place, most)? {
+            return Ok(None);
+        }
+    }
+    Ok(Some(straps))
+}
+
+// The straps of the net at a place are added, in the order of their lines. False where the rule draws more than `most`.
+fn add_lines_up_to(
+    straps: &mut Vec<Drawn>,
+    rule: &StrapRule,
+    core: Rect,
+    reach: &[Run],
+    place: usize,
+    most: usize,
+) -> Result<bool, AllocError>
+    requires width { IsWidth rule.now.width }
+    requires pitch { pos 0 <ℤ rule.now.pitch }
+    requires reach { length reach.now ≡ length rule.now.nets }
+    requires place { place < length reach.now }
+    requires few { place < 2 ^ 60 }
+    requires straps { AreStrapsBefore rule.now core reach.now (line_at place 0) straps.old.items }
+    requires most { length straps.old.items ≤ most }
+    ensures { IfOk result (λ all. MatchBool all
+        (AreFewBefore most rule.now core reach.now (line_at (place + 1) 0) straps.new.items)
+        (DrawsMore most rule.now core)) }
+{
+    let (first, end) = drawn_lines(rule, core, place);
+    for number in first..end {
+        if straps.len() == most {
+            return Ok(false);
+        }
+        straps.push(strap(rule, core, reach, place, number))?;
+    }
+    Ok(true)
 }
 
 // The lines of the net at a place that are drawn have the numbers from the first answer up to below the second.

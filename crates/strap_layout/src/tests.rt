@@ -246,3 +246,36 @@ fn a_million_lines(rt: HostRuntime) -> Result<(), Fail> {
     assert_eq!(rt; drawn[999_999], (0, 1_001_999));
     Ok(())
 }
+
+// Whether a rule that draws three lines of each of its two nets draws at most this many.
+fn draws_at_most(alloc: Global, most: usize) -> Result<bool, AllocError> {
+    let rule = StrapRule {
+        layer: 3,
+        axis: Axis::Y,
+        nets: Entries::new(vec![in alloc; 8, 5]?),
+        width: 4000,
+        pitch: 80_000,
+        apart: 10_000,
+        offset: 20_000,
+        number: None,
+    };
+    let core = Rect {
+        x1: 0,
+        y1: 0,
+        x2: 200_000,
+        y2: 100_000,
+    };
+    let reach = [Run { from: 0, to: 1 }, Run { from: 2, to: 3 }];
+    match straps_up_to(alloc, &rule, core, &reach, most)? {
+        Some(drawn) => Ok(drawn.len() == 6),
+        None => Ok(false),
+    }
+}
+
+#[test]
+fn straps_up_to_a_limit(rt: HostRuntime) -> Result<(), Fail> {
+    assert!(rt; draws_at_most(rt.alloc(), 6)?);
+    assert!(rt; !draws_at_most(rt.alloc(), 5)?);
+    assert!(rt; !draws_at_most(rt.alloc(), 0)?);
+    Ok(())
+}

@@ -1,5 +1,5 @@
 -- How far the drawing of a rule's lines has come, and what keeps its numbers small.
-use Rattle.std.specs.Prelude.{ℕ, ℤ, pos, neg_ℤ, ◌+ℤ◌, ◌*ℤ◌, List}
+use Rattle.std.specs.Prelude.{ℕ, ℤ, pos, neg_ℤ, ◌+ℤ◌, ◌*ℤ◌, ◌≤◌, List, length}
 use Rattle.geom_rect.specs.declared.drawn.Drawn.{Drawn}
 use Rattle.geom_rect.specs.declared.rect.Rect.{Rect}
 use Rattle.geom_rect.specs.declared.run.Run.{Run}
@@ -19,3 +19,7 @@ IsNear limit z = IsBetween (neg_ℤ (pos limit)) (pos limit) z
 abbrev pub AreStrapsBefore : StrapRule → Rect → List Run → LineAt → List Drawn → Type 0
 AreStrapsBefore rule core reach next =
     AreStrapsOf (λ line. IsDrawnLine rule core line × ComesBefore line next) rule core reach
+
+-- The same, and they are at most so many.
+abbrev pub AreFewBefore : ℕ → StrapRule → Rect → List Run → LineAt → List Drawn → Type 0
+AreFewBefore most rule core reach next straps = AreStrapsBefore rule core reach next straps × (length straps ≤ most)

@@ -4,7 +4,7 @@
 //! with the status that it answers.
 #![tactic(auto)]
 
-use multilevel_solve::Plain;
+use multilevel_solve::Multilevel;
 use outside::{Argv, StdFiles, StdSink};
 use std::alloc::{AllocError, Global};
 use std::process::ExitCode;
@@ -36,6 +36,6 @@ fn main(rt: HostRuntime) -> ExitCode {
     };
     let mut files = StdFiles::new(alloc, &rt);
     let mut out = StdSink::new(&rt);
-    let mut solver = Plain::new();
+    let mut solver = Multilevel::new();
     ExitCode::from(pdn_signoff::run(alloc, &words, &mut files, &mut out, &mut solver))
 }

@@ -36,6 +36,33 @@ loads_are net group slice loads e f size =
     ∙ ap (λ (ranges : List LoadRange). map (load_at ranges group) (range_with_len 0 (length group))) f
     ∙ ap (λ n. map (load_at net.loads group) (range_with_len 0 n)) size
 
+-- What each call ensures: of the nodes, the groups and their slices, the parts of the network, and what is made of them.
+record Ensured (net : Network) (shorts : List (ℕ × ℕ)) (group firsts slice heads : List ℕ) (nodes : ℕ)
+    (rs rs0 : List Resistor) (ps ps0 : List Pad) (ls : List Load) (ranges : List LoadRange) : Type 0 where
+  is_built : IsBuilt net
+  counts : nodes ≡ net.nodes
+  are_groups : AreGroups nodes shorts group firsts
+  heads_are : heads ≡ firsts
+  slice_is : slice ≡ group
+  moved_resistors : (rs ≡ map (grouped_resistor slice) rs0) × (rs0 ≡ net.resistors)
+  moved_pads : (ps ≡ map (grouped_pad slice) ps0) × (ps0 ≡ net.pads)
+  summed : (ls ≡ map (load_at ranges slice) (range_with_len 0 (length slice))) × (ranges ≡ net.loads)
+
+told_of : (net : Network) (shorts : List (ℕ × ℕ)) (group firsts slice heads : List ℕ) (nodes : ℕ)
+    (rs rs0 : List Resistor) (ps ps0 : List Pad) (ls : List Load) (ranges : List LoadRange)
+    → Ensured net shorts group firsts slice heads nodes rs rs0 ps ps0 ls ranges
+    → Told net shorts group firsts (length heads) rs ps ls
+told_of net shorts group firsts slice heads nodes rs rs0 ps ps0 ls ranges e = record {
+  built = e.is_built;
+  groups = subst (λ n. AreGroups n shorts group firsts) e.counts e.are_groups;
+  counted = ap length e.heads_are;
+  resistors = e.moved_resistors.0 ∙ ap (λ (g : List ℕ). map (grouped_resistor g) rs0) e.slice_is
+      ∙ ap (map (grouped_resistor group)) e.moved_resistors.1;
+  pads = e.moved_pads.0 ∙ ap (λ (g : List ℕ). map (grouped_pad g) ps0) e.slice_is
+      ∙ ap (map (grouped_pad group)) e.moved_pads.1;
+  loads = e.summed.0 ∙ loads_are net group slice ranges e.slice_is e.summed.1 (e.are_groups.one_a_node ∙ e.counts);
+}
+
 module _ (net : Network) (shorts : List (ℕ × ℕ)) (group firsts : List ℕ) (count : ℕ) (rs : List Resistor)
     (ps : List Pad) (ls : List Load) (t : Told net shorts group firsts count rs ps ls) where
   -- What holds of the lists of the groups holds of those of the code, and the other way round.
@@ -76,21 +103,19 @@ module _ (net : Network) (shorts : List (ℕ × ℕ)) (group firsts : List ℕ) 
 
 pub overflow_cast-firsts : goal.overflow_cast-firsts
 overflow_cast-firsts c =
-    let t : Told c.args.net c.args.shorts.now c.in_ok-groups.groups.group c.in_ok-groups.groups.firsts (length c.as_slice-firsts.result.now)
-    c.move_all.new.resistors.items c.move_all.new.pads.items c.in_ok-loads.loads.items = (record {
-      built = c.nodes.ensures.built;
-      groups = subst (λ n. AreGroups n c.args.shorts.now c.in_ok-groups.groups.group c.in_ok-groups.groups.firsts)
-          c.nodes.ensures.nodes c.in_ok-groups.ensures;
-      counted = ap length c.as_slice-firsts.ensures;
-      resistors = c.move_all.ensures.resistors
-          ∙ ap (λ (g : List ℕ). map (grouped_resistor g) c.into_parts-resistors.result.resistors.items) c.as_slice-group.ensures
-          ∙ ap (map (grouped_resistor c.in_ok-groups.groups.group)) c.into_parts-resistors.ensures.resistors;
-      pads = c.move_all.ensures.pads
-          ∙ ap (λ (g : List ℕ). map (grouped_pad g) c.into_parts-resistors.result.pads.items) c.as_slice-group.ensures
-          ∙ ap (map (grouped_pad c.in_ok-groups.groups.group)) c.into_parts-resistors.ensures.pads;
-      loads = c.in_ok-loads.ensures ∙ loads_are c.args.net c.in_ok-groups.groups.group c.as_slice-group.result.now
-          c.deref.result.now c.as_slice-group.ensures (c.deref.ensures.value ∙ c.into_parts-resistors.ensures.loads)
-          (c.in_ok-groups.ensures.one_a_node ∙ c.nodes.ensures.nodes);
+    let t = told_of c.args.net c.args.shorts.now c.in_ok-groups.groups.group c.in_ok-groups.groups.firsts
+    c.as_slice-group.result.now c.as_slice-firsts.result.now c.nodes.result
+    c.move_all.new.resistors.items c.into_parts-resistors.result.resistors.items
+    c.move_all.new.pads.items c.into_parts-resistors.result.pads.items c.in_ok-loads.loads.items c.deref.result.now
+    (record {
+      is_built = c.nodes.ensures.built;
+      counts = c.nodes.ensures.nodes;
+      are_groups = c.in_ok-groups.ensures;
+      heads_are = c.as_slice-firsts.ensures;
+      slice_is = c.as_slice-group.ensures;
+      moved_resistors = (c.move_all.ensures.resistors, c.into_parts-resistors.ensures.resistors);
+      moved_pads = (c.move_all.ensures.pads, c.into_parts-resistors.ensures.pads);
+      summed = (c.in_ok-loads.ensures, c.deref.ensures.value ∙ c.into_parts-resistors.ensures.loads);
     }) in
     let few = groups_at_most c.args.net.nodes c.args.shorts.now c.in_ok-groups.groups.group c.in_ok-groups.groups.firsts
     t.groups in
@@ -100,21 +125,19 @@ overflow_cast-firsts c =
 
 pub build-requires : goal.build-requires
 build-requires c =
-    let t : Told c.args.net c.args.shorts.now c.in_ok-groups.groups.group c.in_ok-groups.groups.firsts (length c.as_slice-firsts.result.now)
-    c.move_all.new.resistors.items c.move_all.new.pads.items c.in_ok-loads.loads.items = (record {
-      built = c.nodes.ensures.built;
-      groups = subst (λ n. AreGroups n c.args.shorts.now c.in_ok-groups.groups.group c.in_ok-groups.groups.firsts)
-          c.nodes.ensures.nodes c.in_ok-groups.ensures;
-      counted = ap length c.as_slice-firsts.ensures;
-      resistors = c.move_all.ensures.resistors
-          ∙ ap (λ (g : List ℕ). map (grouped_resistor g) c.into_parts-resistors.result.resistors.items) c.as_slice-group.ensures
-          ∙ ap (map (grouped_resistor c.in_ok-groups.groups.group)) c.into_parts-resistors.ensures.resistors;
-      pads = c.move_all.ensures.pads
-          ∙ ap (λ (g : List ℕ). map (grouped_pad g) c.into_parts-resistors.result.pads.items) c.as_slice-group.ensures
-          ∙ ap (map (grouped_pad c.in_ok-groups.groups.group)) c.into_parts-resistors.ensures.pads;
-      loads = c.in_ok-loads.ensures ∙ loads_are c.args.net c.in_ok-groups.groups.group c.as_slice-group.result.now
-          c.deref.result.now c.as_slice-group.ensures (c.deref.ensures.value ∙ c.into_parts-resistors.ensures.loads)
-          (c.in_ok-groups.ensures.one_a_node ∙ c.nodes.ensures.nodes);
+    let t = told_of c.args.net c.args.shorts.now c.in_ok-groups.groups.group c.in_ok-groups.groups.firsts
+    c.as_slice-group.result.now c.as_slice-firsts.result.now c.nodes.result
+    c.move_all.new.resistors.items c.into_parts-resistors.result.resistors.items
+    c.move_all.new.pads.items c.into_parts-resistors.result.pads.items c.in_ok-loads.loads.items c.deref.result.now
+    (record {
+      is_built = c.nodes.ensures.built;
+      counts = c.nodes.ensures.nodes;
+      are_groups = c.in_ok-groups.ensures;
+      heads_are = c.as_slice-firsts.ensures;
+      slice_is = c.as_slice-group.ensures;
+      moved_resistors = (c.move_all.ensures.resistors, c.into_parts-resistors.ensures.resistors);
+      moved_pads = (c.move_all.ensures.pads, c.into_parts-resistors.ensures.pads);
+      summed = (c.in_ok-loads.ensures, c.deref.ensures.value ∙ c.into_parts-resistors.ensures.loads);
     }) in
     record {
       ranges = to_code c.args.net c.args.shorts.now c.in_ok-groups.groups.group c.in_ok-groups.groups.firsts (length c.as_slice-firsts.result.now)
@@ -125,42 +148,38 @@ build-requires c =
 
 pub told-requires : goal.told-requires
 told-requires c =
-    let t : Told c.args.net c.args.shorts.now c.in_ok-groups.groups.group c.in_ok-groups.groups.firsts (length c.as_slice-firsts.result.now)
-    c.move_all.new.resistors.items c.move_all.new.pads.items c.in_ok-loads.loads.items = (record {
-      built = c.nodes.ensures.built;
-      groups = subst (λ n. AreGroups n c.args.shorts.now c.in_ok-groups.groups.group c.in_ok-groups.groups.firsts)
-          c.nodes.ensures.nodes c.in_ok-groups.ensures;
-      counted = ap length c.as_slice-firsts.ensures;
-      resistors = c.move_all.ensures.resistors
-          ∙ ap (λ (g : List ℕ). map (grouped_resistor g) c.into_parts-resistors.result.resistors.items) c.as_slice-group.ensures
-          ∙ ap (map (grouped_resistor c.in_ok-groups.groups.group)) c.into_parts-resistors.ensures.resistors;
-      pads = c.move_all.ensures.pads
-          ∙ ap (λ (g : List ℕ). map (grouped_pad g) c.into_parts-resistors.result.pads.items) c.as_slice-group.ensures
-          ∙ ap (map (grouped_pad c.in_ok-groups.groups.group)) c.into_parts-resistors.ensures.pads;
-      loads = c.in_ok-loads.ensures ∙ loads_are c.args.net c.in_ok-groups.groups.group c.as_slice-group.result.now
-          c.deref.result.now c.as_slice-group.ensures (c.deref.ensures.value ∙ c.into_parts-resistors.ensures.loads)
-          (c.in_ok-groups.ensures.one_a_node ∙ c.nodes.ensures.nodes);
+    let t = told_of c.args.net c.args.shorts.now c.in_ok-groups.groups.group c.in_ok-groups.groups.firsts
+    c.as_slice-group.result.now c.as_slice-firsts.result.now c.nodes.result
+    c.move_all.new.resistors.items c.into_parts-resistors.result.resistors.items
+    c.move_all.new.pads.items c.into_parts-resistors.result.pads.items c.in_ok-loads.loads.items c.deref.result.now
+    (record {
+      is_built = c.nodes.ensures.built;
+      counts = c.nodes.ensures.nodes;
+      are_groups = c.in_ok-groups.ensures;
+      heads_are = c.as_slice-firsts.ensures;
+      slice_is = c.as_slice-group.ensures;
+      moved_resistors = (c.move_all.ensures.resistors, c.into_parts-resistors.ensures.resistors);
+      moved_pads = (c.move_all.ensures.pads, c.into_parts-resistors.ensures.pads);
+      summed = (c.in_ok-loads.ensures, c.deref.ensures.value ∙ c.into_parts-resistors.ensures.loads);
     }) in
     left c.args.net c.args.shorts.now c.in_ok-groups.groups.group c.in_ok-groups.groups.firsts (length c.as_slice-firsts.result.now)
     c.move_all.new.resistors.items c.move_all.new.pads.items c.in_ok-loads.loads.items t c.in-Err.error c.in-Err.ensures.refused
 
 pub returns-in-Ok-clause-network : goal.returns-in-Ok-clause-network
 returns-in-Ok-clause-network c =
-    let t : Told c.args.net c.args.shorts.now c.in_ok-groups.groups.group c.in_ok-groups.groups.firsts (length c.as_slice-firsts.result.now)
-    c.move_all.new.resistors.items c.move_all.new.pads.items c.in_ok-loads.loads.items = (record {
-      built = c.nodes.ensures.built;
-      groups = subst (λ n. AreGroups n c.args.shorts.now c.in_ok-groups.groups.group c.in_ok-groups.groups.firsts)
-          c.nodes.ensures.nodes c.in_ok-groups.ensures;
-      counted = ap length c.as_slice-firsts.ensures;
-      resistors = c.move_all.ensures.resistors
-          ∙ ap (λ (g : List ℕ). map (grouped_resistor g) c.into_parts-resistors.result.resistors.items) c.as_slice-group.ensures
-          ∙ ap (map (grouped_resistor c.in_ok-groups.groups.group)) c.into_parts-resistors.ensures.resistors;
-      pads = c.move_all.ensures.pads
-          ∙ ap (λ (g : List ℕ). map (grouped_pad g) c.into_parts-resistors.result.pads.items) c.as_slice-group.ensures
-          ∙ ap (map (grouped_pad c.in_ok-groups.groups.group)) c.into_parts-resistors.ensures.pads;
-      loads = c.in_ok-loads.ensures ∙ loads_are c.args.net c.in_ok-groups.groups.group c.as_slice-group.result.now
-          c.deref.result.now c.as_slice-group.ensures (c.deref.ensures.value ∙ c.into_parts-resistors.ensures.loads)
-          (c.in_ok-groups.ensures.one_a_node ∙ c.nodes.ensures.nodes);
+    let t = told_of c.args.net c.args.shorts.now c.in_ok-groups.groups.group c.in_ok-groups.groups.firsts
+    c.as_slice-group.result.now c.as_slice-firsts.result.now c.nodes.result
+    c.move_all.new.resistors.items c.into_parts-resistors.result.resistors.items
+    c.move_all.new.pads.items c.into_parts-resistors.result.pads.items c.in_ok-loads.loads.items c.deref.result.now
+    (record {
+      is_built = c.nodes.ensures.built;
+      counts = c.nodes.ensures.nodes;
+      are_groups = c.in_ok-groups.ensures;
+      heads_are = c.as_slice-firsts.ensures;
+      slice_is = c.as_slice-group.ensures;
+      moved_resistors = (c.move_all.ensures.resistors, c.into_parts-resistors.ensures.resistors);
+      moved_pads = (c.move_all.ensures.pads, c.into_parts-resistors.ensures.pads);
+      summed = (c.in_ok-loads.ensures, c.deref.ensures.value ∙ c.into_parts-resistors.ensures.loads);
     }) in
     from_code c.args.net c.args.shorts.now c.in_ok-groups.groups.group c.in_ok-groups.groups.firsts (length c.as_slice-firsts.result.now)
     c.move_all.new.resistors.items c.move_all.new.pads.items c.in_ok-loads.loads.items t
@@ -168,21 +187,19 @@ returns-in-Ok-clause-network c =
 
 pub returns-in-Ok-clause-agree : goal.returns-in-Ok-clause-agree
 returns-in-Ok-clause-agree c ok =
-    let t : Told c.args.net c.args.shorts.now c.in_ok-groups.groups.group c.in_ok-groups.groups.firsts (length c.as_slice-firsts.result.now)
-    c.move_all.new.resistors.items c.move_all.new.pads.items c.in_ok-loads.loads.items = (record {
-      built = c.nodes.ensures.built;
-      groups = subst (λ n. AreGroups n c.args.shorts.now c.in_ok-groups.groups.group c.in_ok-groups.groups.firsts)
-          c.nodes.ensures.nodes c.in_ok-groups.ensures;
-      counted = ap length c.as_slice-firsts.ensures;
-      resistors = c.move_all.ensures.resistors
-          ∙ ap (λ (g : List ℕ). map (grouped_resistor g) c.into_parts-resistors.result.resistors.items) c.as_slice-group.ensures
-          ∙ ap (map (grouped_resistor c.in_ok-groups.groups.group)) c.into_parts-resistors.ensures.resistors;
-      pads = c.move_all.ensures.pads
-          ∙ ap (λ (g : List ℕ). map (grouped_pad g) c.into_parts-resistors.result.pads.items) c.as_slice-group.ensures
-          ∙ ap (map (grouped_pad c.in_ok-groups.groups.group)) c.into_parts-resistors.ensures.pads;
-      loads = c.in_ok-loads.ensures ∙ loads_are c.args.net c.in_ok-groups.groups.group c.as_slice-group.result.now
-          c.deref.result.now c.as_slice-group.ensures (c.deref.ensures.value ∙ c.into_parts-resistors.ensures.loads)
-          (c.in_ok-groups.ensures.one_a_node ∙ c.nodes.ensures.nodes);
+    let t = told_of c.args.net c.args.shorts.now c.in_ok-groups.groups.group c.in_ok-groups.groups.firsts
+    c.as_slice-group.result.now c.as_slice-firsts.result.now c.nodes.result
+    c.move_all.new.resistors.items c.into_parts-resistors.result.resistors.items
+    c.move_all.new.pads.items c.into_parts-resistors.result.pads.items c.in_ok-loads.loads.items c.deref.result.now
+    (record {
+      is_built = c.nodes.ensures.built;
+      counts = c.nodes.ensures.nodes;
+      are_groups = c.in_ok-groups.ensures;
+      heads_are = c.as_slice-firsts.ensures;
+      slice_is = c.as_slice-group.ensures;
+      moved_resistors = (c.move_all.ensures.resistors, c.into_parts-resistors.ensures.resistors);
+      moved_pads = (c.move_all.ensures.pads, c.into_parts-resistors.ensures.pads);
+      summed = (c.in_ok-loads.ensures, c.deref.ensures.value ∙ c.into_parts-resistors.ensures.loads);
     }) in
     agree_by_group c.args.net c.args.shorts.now c.in_ok-groups.groups.group c.in_ok-groups.groups.firsts t.built t.groups
     (from_code c.args.net c.args.shorts.now c.in_ok-groups.groups.group c.in_ok-groups.groups.firsts (length c.as_slice-firsts.result.now)
@@ -191,21 +208,19 @@ returns-in-Ok-clause-agree c ok =
 
 pub returns-in-Err-clause-refused : goal.returns-in-Err-clause-refused
 returns-in-Err-clause-refused c =
-    let t : Told c.args.net c.args.shorts.now c.in_ok-groups.groups.group c.in_ok-groups.groups.firsts (length c.as_slice-firsts.result.now)
-    c.move_all.new.resistors.items c.move_all.new.pads.items c.in_ok-loads.loads.items = (record {
-      built = c.nodes.ensures.built;
-      groups = subst (λ n. AreGroups n c.args.shorts.now c.in_ok-groups.groups.group c.in_ok-groups.groups.firsts)
-          c.nodes.ensures.nodes c.in_ok-groups.ensures;
-      counted = ap length c.as_slice-firsts.ensures;
-      resistors = c.move_all.ensures.resistors
-          ∙ ap (λ (g : List ℕ). map (grouped_resistor g) c.into_parts-resistors.result.resistors.items) c.as_slice-group.ensures
-          ∙ ap (map (grouped_resistor c.in_ok-groups.groups.group)) c.into_parts-resistors.ensures.resistors;
-      pads = c.move_all.ensures.pads
-          ∙ ap (λ (g : List ℕ). map (grouped_pad g) c.into_parts-resistors.result.pads.items) c.as_slice-group.ensures
-          ∙ ap (map (grouped_pad c.in_ok-groups.groups.group)) c.into_parts-resistors.ensures.pads;
-      loads = c.in_ok-loads.ensures ∙ loads_are c.args.net c.in_ok-groups.groups.group c.as_slice-group.result.now
-          c.deref.result.now c.as_slice-group.ensures (c.deref.ensures.value ∙ c.into_parts-resistors.ensures.loads)
-          (c.in_ok-groups.ensures.one_a_node ∙ c.nodes.ensures.nodes);
+    let t = told_of c.args.net c.args.shorts.now c.in_ok-groups.groups.group c.in_ok-groups.groups.firsts
+    c.as_slice-group.result.now c.as_slice-firsts.result.now c.nodes.result
+    c.move_all.new.resistors.items c.into_parts-resistors.result.resistors.items
+    c.move_all.new.pads.items c.into_parts-resistors.result.pads.items c.in_ok-loads.loads.items c.deref.result.now
+    (record {
+      is_built = c.nodes.ensures.built;
+      counts = c.nodes.ensures.nodes;
+      are_groups = c.in_ok-groups.ensures;
+      heads_are = c.as_slice-firsts.ensures;
+      slice_is = c.as_slice-group.ensures;
+      moved_resistors = (c.move_all.ensures.resistors, c.into_parts-resistors.ensures.resistors);
+      moved_pads = (c.move_all.ensures.pads, c.into_parts-resistors.ensures.pads);
+      summed = (c.in_ok-loads.ensures, c.deref.ensures.value ∙ c.into_parts-resistors.ensures.loads);
     }) in
     refused c.args.net c.args.shorts.now c.in_ok-groups.groups.group c.in_ok-groups.groups.firsts (length c.as_slice-firsts.result.now)
     c.move_all.new.resistors.items c.move_all.new.pads.items c.in_ok-loads.loads.items t

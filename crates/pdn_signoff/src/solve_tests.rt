@@ -82,12 +82,12 @@ fn holds(rt: &(impl Abort + AllocGlobal), row: &Row<'_>) -> Result<(), AllocErro
 }
 
 /// A run over a netlist in which no call fails.
-fn solved(
+fn solved<'a>(
     rt: &(impl Abort + AllocGlobal),
-    netlist: &[u8],
-    line: &[u8],
-    certificate: &[u8],
-    report: &[u8],
+    netlist: &'a [u8],
+    line: &'a [u8],
+    certificate: &'a [u8],
+    report: &'a [u8],
 ) -> Result<(), AllocError> {
     holds(
         rt,
@@ -105,11 +105,11 @@ fn solved(
 }
 
 /// A run that ends before anything is written, where no call fails.
-fn refused(
+fn refused<'a>(
     rt: &(impl Abort + AllocGlobal),
-    netlist: &[u8],
+    netlist: &'a [u8],
     status: u8,
-    line: &[u8],
+    line: &'a [u8],
 ) -> Result<(), AllocError> {
     holds(
         rt,
@@ -127,14 +127,14 @@ fn refused(
 }
 
 /// A run over the first netlist in which this call on the named file fails, and this one on the sink.
-fn failing(
+fn failing<'a>(
     rt: &(impl Abort + AllocGlobal),
-    name: &str,
+    name: &'a str,
     call: u64,
     failing_write: u64,
-    line: &[u8],
-    certificate: Option<&[u8]>,
-    report: Option<&[u8]>,
+    line: &'a [u8],
+    certificate: Option<&'a [u8]>,
+    report: Option<&'a [u8]>,
 ) -> Result<(), AllocError> {
     holds(
         rt,

@@ -1,13 +1,12 @@
 -- Of the answers of `solve` other than want of memory one alone has its cause, where it is known what the files hold; how
 -- many sweeps a network was solved in is left open.
-use Rattle.std.proofs.Common.{◌≡◌, ◌≢◌, ◌≤◌, ◌<◌, ◌⊎◌, inl, inr, ℕ, List, [], Option, Some, length, refl, sym, ap, subst, ◌∙◌, arith}
+use Rattle.std.proofs.Common.{◌≡◌, ◌≢◌, ◌≤◌, ◌<◌, ◌⊎◌, inl, inr, ℕ, List, [], Some, length, refl, sym, ap, subst, ◌∙◌, arith}
 use Rattle.outside.specs.Counts.{FaultCounts, Rose}
 use Rattle.outside.specs.Files.{Holdings, bytes_in}
 use Rattle.outside.specs.Whole.{longest_text}
 use Rattle.answers.specs.declared.answer.Answer.{Answer}
 use Rattle.answers.specs.declared.answer.Answer.TheVariants.{Usage, Want, ReadFault, WriteFault, TooLong, Refused, Range, PadConflict, Unsupplied, Solved, Certified, NotCertified}
 use Rattle.judging.specs.Texts.{HasNetwork}
-use Rattle.grid_net.specs.Network.{Network}
 use Rattle.short_merge.specs.declared.merged.Merged.{Merged}
 use Rattle.solving.specs.Refusal.{IsUnsigned}
 use Rattle.solving.specs.Signed.{EachIsSupplied}

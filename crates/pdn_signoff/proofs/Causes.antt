@@ -17,7 +17,7 @@ use Rattle.spice_grid.specs.declared.named.Named.{Named}
 use Rattle.command_words.specs.declared.command.Command.{Command}
 use Rattle.command_words.specs.declared.command.Command.TheVariants.{Check, Solve}
 use Rattle.command_words.specs.Words.{IsCommand}
-use Rattle.pdn_signoff.specs.Words.{IsCheck, IsSolve, IsNotSolve, IsUsage}
+use Rattle.pdn_signoff.specs.Words.{IsCheck, IsNotSolve, IsUsage}
 use Rattle.pdn_signoff.specs.Check.{FilesThen, NoneFailed, AreTexts, JudgesFiles, Answers}
 use Rattle.pdn_signoff.specs.Solve.{SolverThen, IsKept, Solves}
 use Rattle.pdn_signoff.specs.Command.{SinkThen, IsCause, Ends, IsCheckOf, HasCertificate}

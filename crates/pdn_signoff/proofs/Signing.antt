@@ -1,5 +1,5 @@
 -- What follows from the cause of an answer of `solve` and the way in which the run ends with it.
-use Rattle.std.proofs.Common.{◌≡◌, ◌≢◌, ◌≤◌, ◌<◌, ◌⊎◌, inl, inr, ℕ, ℤ, List, Option, Some, None, IfSome, length, refl, sym, ap, subst, ◌∙◌, arith}
+use Rattle.std.proofs.Common.{◌≡◌, ◌≢◌, ◌≤◌, ◌<◌, ◌⊎◌, inl, inr, ℕ, ℤ, List, [], Option, Some, None, IfSome, Ok, length, unwrap_or, refl, sym, ap, subst, ◌∙◌, arith}
 use Rattle.outside.specs.Counts.{Rose}
 use Rattle.outside.specs.Files.{Holdings, bytes_in}
 use Rattle.outside.specs.Known.{WhereKnown}
@@ -8,7 +8,7 @@ use Rattle.answers.specs.declared.answer.Answer.{Answer}
 use Rattle.answers.specs.declared.answer.Answer.TheVariants.{Usage, Want, ReadFault, WriteFault, TooLong, Refused, Range, PadConflict, Unsupplied, Solved, Certified, NotCertified}
 use Rattle.answers.specs.Answer.{status_of}
 use Rattle.command_words.specs.declared.command.Command.TheVariants.{Solve}
-use Rattle.grid_net.specs.Network.{Network}
+use Rattle.certificate_file.specs.Format.{ReadsCertificate}
 use Rattle.judging.specs.Texts.{HasNetwork}
 use Rattle.short_merge.specs.declared.merged.Merged.{Merged}
 use Rattle.solving.specs.declared.signed.Signed.{Signed}
@@ -17,8 +17,8 @@ use Rattle.solving.specs.Refusal.{IsUnsigned}
 use Rattle.spice_grid.specs.declared.named.Named.{Named}
 use Rattle.pdn_signoff.specs.Words.{IsSolve}
 use Rattle.pdn_signoff.specs.Check.{FilesThen}
-use Rattle.pdn_signoff.specs.Solve.{SolverThen, HoldsBoth, SignsFile, RefusesFile, AreNumbersOf, Solves}
-use Rattle.pdn_signoff.specs.Command.{SinkThen, IsCause, Ends, IsSolveOf, LeavesSigned, ChangesOnly}
+use Rattle.pdn_signoff.specs.Solve.{SolverThen, HoldsBoth, SignsFile, RefusesFile, Solves}
+use Rattle.pdn_signoff.specs.Command.{SinkThen, IsCause, IsSolveOf, LeavesSigned, LeavesAccepted, ChangesOnly}
 use Rattle.pdn_signoff.proofs.Causes.{Ran, AreLaws, not_solve, of_held, unhindered, status_zero}
 use Rattle.pdn_signoff.proofs.Solving.{outputs_alone, want_solved}
 
@@ -109,6 +109,35 @@ pub signed : AreLaws → (words : List (List ℕ)) (solver solver' : SolverThen)
 signed laws words solver solver' before after result out out' ran n c r is zero =
     let s = is_solved laws words solver solver' before after result out out' ran n c r is zero in
     leaves solver.told n c r s.signed before.known after.known s.file s.holds
+
+accepts : (told : Option (List ℤ × List ℤ)) (n c r : List ℕ) (signed : Signed) (k l : Option Holdings) → SignsFile told k n signed → WhereKnown (HoldsBoth c r signed.certificate signed.report) k l → n ≢ c → n ≢ r → WhereKnown (LeavesAccepted n c) k l
+accepts told n c r signed None None file holds not_c not_r = tt
+accepts told n c r signed None (Some y) file holds not_c not_r = holds
+accepts told n c r signed (Some x) None file holds not_c not_r = holds
+accepts told n c r signed (Some x) (Some y) file holds not_c not_r = λ fits words is.
+    let stays : file.text ≡ bytes_in y n = file.text_is ∙ ap (λ o. unwrap_or o []) (sym (holds.others n not_c not_r)) in
+    let written : signed.certificate ≡ bytes_in y c = ap (λ o. unwrap_or o []) (sym holds.certificate_holds) in (
+      file.named,
+      file.merged,
+      file.checked.lists,
+      record {
+        netlist = n;
+        certificate = c;
+        words_are = is;
+        netlist_fits = subst (λ t. length t ≤ longest_text) stays file.fits;
+        certificate_fits = fits;
+        texts = record {
+          network = subst (λ t. HasNetwork t file.named file.merged) stays file.signs.gives.network;
+          certificate = subst (λ t. ReadsCertificate file.merged.names t (Ok file.checked.lists)) written file.checked.reads;
+        };
+      },
+      file.checked.holds,
+    )
+
+pub accepted : AreLaws → (words : List (List ℕ)) (solver solver' : SolverThen) (before after : FilesThen) (result : ℕ) (out out' : SinkThen) → Ran words solver solver' before after result out out' → (n c r : List ℕ) → IsSolve words n c r → result ≡ 0 → n ≢ c → n ≢ r → WhereKnown (LeavesAccepted n c) before.known after.known
+accepted laws words solver solver' before after result out out' ran n c r is zero not_c not_r =
+    let s = is_solved laws words solver solver' before after result out out' ran n c r is zero in
+    accepts solver.told n c r s.signed before.known after.known s.file s.holds not_c not_r
 
 pub asked : AreLaws → (words : List (List ℕ)) (solver solver' : SolverThen) (before after : FilesThen) (result : ℕ) (out out' : SinkThen) → Ran words solver solver' before after result out out' → (n c r : List ℕ) → IsSolve words n c r → result ≡ 0 → Rose solver.proposals solver'.proposals
 asked laws words solver solver' before after result out out' ran n c r is zero =

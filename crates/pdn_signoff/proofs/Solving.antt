@@ -1,5 +1,5 @@
 -- The answers of `solve`, each with its cause.
-use Rattle.std.proofs.Common.{◌≡◌, ◌≤◌, ◌<◌, ◌⊎◌, inl, inr, ℕ, List, Option, Some, None, IfSome, OnSome, length, take, refl, sym, ap, subst, ◌∙◌, arith}
+use Rattle.std.proofs.Common.{◌≡◌, ◌≤◌, ◌<◌, ◌⊎◌, inl, inr, ℕ, List, Option, Some, None, IfSome, OnSome, length, refl, sym, ap, subst, ◌∙◌, arith}
 use Rattle.std.proofs.lemmas.List.{take_all}
 use Rattle.outside.specs.Counts.{Rose}
 use Rattle.outside.specs.Files.{Holdings, HoldsFirst, bytes_in}
@@ -12,7 +12,7 @@ use Rattle.answers.specs.declared.answer.Answer.TheVariants.{Usage, Want, ReadFa
 use Rattle.solving.specs.declared.signed.Signed.{Signed}
 use Rattle.solving.specs.Refusal.{IsUnsigned, IsToUnsigned}
 use Rattle.pdn_signoff.specs.Check.{FilesThen, NoneFailed, IsTextOf}
-use Rattle.pdn_signoff.specs.Solve.{SolverThen, IsKept, HoldsBoth, HoldsFirstOfReport, SignsFile, StandsAtCertificate, StandsAtReport, Solves}
+use Rattle.pdn_signoff.specs.Solve.{SolverThen, IsKept, HoldsBoth, HoldsFirstOfReport, SignsFile, Solves}
 use Rattle.pdn_signoff.specs.Command.{IsCause, ChangesOnly}
 use Rattle.pdn_signoff.specs.inside.Check.{unread_answer}
 use Rattle.pdn_signoff.specs.inside.Solve.{Writes}

@@ -9,7 +9,7 @@ use Rattle.answers.specs.declared.answer.Answer.{Answer}
 use Rattle.answers.specs.declared.answer.Answer.TheVariants.{Want, Solved}
 use Rattle.solving.specs.declared.signed.Signed.{Signed}
 use Rattle.pdn_signoff.specs.Check.{FilesThen}
-use Rattle.pdn_signoff.specs.Solve.{WriteFailed, HoldsBoth, HoldsFirstOfReport, StandsAtCertificate, StandsAtReport}
+use Rattle.pdn_signoff.specs.Solve.{WriteFailed, HoldsBoth, HoldsFirstOfReport, StandsAtCertificate}
 use Rattle.pdn_signoff.specs.inside.Solve.{Writes, unwritten_answer}
 
 -- What two writes leave.

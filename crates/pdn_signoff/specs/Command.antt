@@ -93,6 +93,14 @@ pub record LeavesSigned (told : Option (List ℤ × List ℤ)) (netlist certific
   pub within : LieWithinReport named merged bounds
   pub files : HoldsBoth certificate report signed.certificate signed.report old new
 
+-- What a solved netlist leaves passes `check`: whatever words of `check` name these two files, their texts are there, and
+-- the certificate holds on the merged network of the netlist. So `check` ends with 0, where no call fails and memory
+-- lasts. It is asked where the certificate has at most as many bytes as an input may have.
+abbrev pub LeavesAccepted : (netlist certificate : List ℕ) → Holdings → Holdings → Type 0
+LeavesAccepted netlist certificate old new =
+    length (bytes_in new certificate) ≤ longest_text → (words : List (List ℕ)) → IsCheck words netlist certificate
+    → HasCertificate words new
+
 -- No file but these two changes.
 abbrev pub ChangesOnly : (one other : List ℕ) → Holdings → Holdings → Type 0
 ChangesOnly one other old new = (file : List ℕ) → file ≢ one → file ≢ other → new file ≡ old file

@@ -9,7 +9,7 @@ use Rattle.answers.specs.declared.answer.Answer.TheVariants.{Usage, Want, ReadFa
 use Rattle.bound_check.specs.Certified.{Certificate}
 use Rattle.short_merge.specs.declared.merged.Merged.{Merged}
 use Rattle.solving.specs.declared.signed.Signed.{Signed}
-use Rattle.solving.specs.Signed.{Signs, LieWithinReport}
+use Rattle.solving.specs.Signed.{Signs, LieWithinReport, PassesCheck}
 use Rattle.solving.specs.Refusal.{IsUnsigned}
 use Rattle.spice_grid.specs.declared.named.Named.{Named}
 use Rattle.pdn_signoff.specs.Check.{FilesThen, NoneFailed, ReadFailed, IsTextOf, IsTooLong}
@@ -44,7 +44,7 @@ HoldsFirstOfReport certificate report certificate_text report_text old new =
     ⊎ ((n : ℕ) × HoldsBoth certificate report certificate_text (take n report_text) old new)
 
 -- The text of the file, which has at most as many bytes as an input may have, is signed off so; every solution of the
--- netlist lies within the intervals that its report prints.
+-- netlist lies within the intervals that its report prints; and who checks the certificate finds that it holds.
 pub record SignsFile (told : Option (List ℤ × List ℤ)) (known : Option Holdings) (netlist : List ℕ) (signed : Signed)
     : Type 0 where
   pub text : List ℕ
@@ -55,6 +55,7 @@ pub record SignsFile (told : Option (List ℤ × List ℤ)) (known : Option Hold
   pub certificate : Certificate
   pub signs : Signs told text named merged certificate signed
   pub within : LieWithinReport named merged certificate
+  pub checked : PassesCheck merged signed
 
 -- The file was read without a fault, and its text is refused so; no file was written.
 abbrev pub RefusesFile : FilesThen → FilesThen → (netlist : List ℕ) → Answer → Type 0

@@ -13,7 +13,7 @@ ghost use Rattle.solving.specs.Signed.{EachIsSupplied};
 ghost use Rattle.spice_grid.specs.declared.named.Named.{Named};
 ghost use Rattle.pdn_signoff.specs.Check.{FilesThen};
 ghost use Rattle.pdn_signoff.specs.Solve.{SolverThen};
-ghost use Rattle.pdn_signoff.specs.Command.{IsCause, CanRise, Ends, PrintEnds, IsCheckOf, HasCertificate, IsSolveOf, LeavesSigned, ChangesOnly, AreAlike};
+ghost use Rattle.pdn_signoff.specs.Command.{IsCause, CanRise, Ends, PrintEnds, IsCheckOf, HasCertificate, IsSolveOf, LeavesSigned, LeavesAccepted, ChangesOnly, AreAlike};
 ghost use Rattle.pdn_signoff.specs.Words.{IsCheck, IsSolve, IsNotSolve, IsUsage};
 
 use crate::check::check;
@@ -112,6 +112,12 @@ pub fn run<F: Files, O: Sink, V: Solver>(
     // certification has it.
     ensures signed { (netlist certificate report : List ℕ) → IsSolve words.now netlist certificate report → result ≡ 0
         → WhereKnown (LeavesSigned (V.told solver.old) netlist certificate report) (F.known files.old) (F.known files.new) }
+
+    // Then `check` over the netlist and the certificate accepts them, unless the netlist is itself one of the outputs, where
+    // it is known what the files hold.
+    ensures accepted { (netlist certificate report : List ℕ) → IsSolve words.now netlist certificate report → result ≡ 0
+        → netlist ≢ certificate → netlist ≢ report
+        → WhereKnown (LeavesAccepted netlist certificate) (F.known files.old) (F.known files.new) }
 
     // Then the solver was asked. What it tells never changes.
     ensures asked { (netlist certificate report : List ℕ) → IsSolve words.now netlist certificate report → result ≡ 0

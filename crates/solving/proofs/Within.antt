@@ -1,5 +1,5 @@
 -- What is signed off, and the intervals in which the solutions of the netlist lie.
-use Rattle.std.proofs.Common.{◌≡◌, ◌<◌, ℕ, ℤ, List, [], Option, None, length, get_or, replicate, refl, sym, ap, subst, ◌∙◌}
+use Rattle.std.proofs.Common.{◌≡◌, ◌<◌, ℕ, ℤ, List, [], Option, None, length, get_or, replicate, sym, ap, subst, ◌∙◌}
 use Rattle.std.proofs.lemmas.List.{length-map}
 use Rattle.bound_check.specs.Certified.{Certificate, LiesWithin, nanovolt, nanoampere}
 use Rattle.bound_make.specs.Certifier.{LieInRange, MadeOfTold}
@@ -19,8 +19,9 @@ use Rattle.signoff_report.specs.Report.{written_report}
 use Rattle.signoff_report.specs.Shown.{shown_voltage, shown_current}
 use Rattle.spice_grid.specs.declared.named.Named.{Named}
 use Rattle.solving.specs.declared.signed.Signed.{Signed}
-use Rattle.solving.specs.Signed.{EachIsSupplied, IsMadeOf, Signs, LieWithinReport, unlimited}
+use Rattle.solving.specs.Signed.{EachIsSupplied, Signs, LieWithinReport, PassesCheck, unlimited}
 use Rattle.solving.specs.inside.Texts.{AreTextsOf, ReportHolds}
+use Rattle.solving.proofs.Checked.{AreTextLaws, passes}
 
 -- The laws of solutions group by group, as they are handed in.
 pub record AreGroupLaws : Type 0 where
@@ -67,10 +68,10 @@ abbrev pub InScale : Option (List ℤ × List ℤ) → Network → Certificate �
 InScale told net c = (s : Scale) × IsScaleOf net s × LieInRange net s c.high c.low × MadeOfTold net s told c.high c.low
 
 -- A network that is supplied and certified, and of which the texts were made, is signed off.
-pub signs : AreGroupLaws → (told : Option (List ℤ × List ℤ)) (merged : Merged) (c : Certificate) (signed : Signed) → EachIsSupplied merged.net → c.net ≡ merged.net → InScale told merged.net c → AreTextsOf c merged.names signed → ReportHolds c
+pub signs : AreGroupLaws → (told : Option (List ℤ × List ℤ)) (merged : Merged) → AreTextLaws merged.names → (c : Certificate) (signed : Signed) → EachIsSupplied merged.net → c.net ≡ merged.net → InScale told merged.net c → AreTextsOf c merged.names signed → ReportHolds c
     → (text : List ℕ) (named : Named) → GivesNetwork text named merged
-    → (certificate : Certificate) × Signs told text named merged certificate signed × LieWithinReport named merged certificate
-signs laws told merged c signed supplied same (scale, scale_is, in_range, made) texts holds text named gives = (
+    → (certificate : Certificate) × Signs told text named merged certificate signed × LieWithinReport named merged certificate × PassesCheck merged signed
+signs laws told merged words c signed supplied same (scale, scale_is, in_range, made) texts holds text named gives = (
   c,
   record {
     gives = gives;
@@ -83,6 +84,7 @@ signs laws told merged c signed supplied same (scale, scale_is, in_range, made) 
     sweeps = texts.sweeps;
   },
   within laws text named merged c gives same holds,
+  passes text named merged words c gives same holds.kept signed texts.certificate,
 )
 
 -- The limits of a network of which none is stated.

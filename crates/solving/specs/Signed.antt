@@ -1,9 +1,12 @@
 -- What a netlist is signed off with, and what that says of every solution of the netlist as it was written.
-use Rattle.std.specs.Prelude.{◌≡◌, ℕ, ◌<◌, ℤ, List, [], Option, None, length, replicate, slice_index}
+use Rattle.std.specs.Prelude.{◌≡◌, ℕ, ◌<◌, ℤ, List, [], Option, None, Ok, length, replicate, slice_index}
 use Rattle.bound_check.specs.Certified.{Certificate, IsKept, LiesWithin, nanovolt, nanoampere}
 use Rattle.bound_make.specs.Certifier.{LieInRange, MadeOfTold}
 use Rattle.bound_make.specs.Scale.{Scale, IsScaleOf}
+use Rattle.certificate_file.specs.declared.lists.Lists.{Lists}
+use Rattle.certificate_file.specs.Format.{ReadsCertificate}
 use Rattle.certificate_file.specs.Written.{certificate_text}
+use Rattle.grid_net.specs.Certificate.{IsCertificate}
 use Rattle.grid_net.specs.Level.{IsSupplied}
 use Rattle.grid_net.specs.Network.{Network}
 use Rattle.grid_net.specs.Shorted.{IsShortedSolution}
@@ -57,3 +60,10 @@ pub record LieWithinReport (named : Named) (merged : Merged) (c : Certificate) :
   pub currents : (q : ℕ) (p currents drawn shorted : ℕ → ℤ)
       → IsShortedSolution named.net named.shorts q p currents drawn shorted → (k : ℕ) → k < length named.net.resistors
       → LiesWithin nanoampere q (currents k) (shown_current c (resistor_at merged.net k))
+
+-- Whoever checks the certificate finds that it holds: for the names of the groups its text reads as two lists, and these
+-- pass the test of a certificate on the network of the groups.
+pub record PassesCheck (merged : Merged) (signed : Signed) : Type 0 where
+  pub lists : Lists
+  pub reads : ReadsCertificate merged.names signed.certificate (Ok lists)
+  pub holds : IsCertificate merged.net lists.high lists.low

@@ -6,7 +6,7 @@ ghost use Rattle.bound_check.specs.Certified.{Certificate};
 ghost use Rattle.judging.specs.Stage.{GivesNetwork};
 ghost use Rattle.short_merge.specs.declared.merged.Merged.{Merged as Groups};
 ghost use Rattle.spice_grid.specs.declared.named.Named.{Named};
-ghost use Rattle.solving.specs.Signed.{Signs, LieWithinReport};
+ghost use Rattle.solving.specs.Signed.{Signs, LieWithinReport, PassesCheck};
 ghost use Rattle.solving.specs.Refusal.{IsUnsigned};
 ghost use Rattle.solving.specs.inside.Texts.{AreTextsOf, ReportHolds};
 
@@ -14,14 +14,15 @@ use crate::signed::Signed;
 use answers::Answer;
 use bound_check::Certified;
 use bound_make::Certifier;
-use certificate_file::certificate_text;
+use certificate_file::{certificate_text, written_certificates_read_back};
 use entry_list::Entries;
 use grid_net::Solver;
 use group_net::solutions_by_groups;
 use judging::read_network;
 use outside::Name;
-use short_merge::Merged;
+use short_merge::{Merged, merged_names};
 use signoff_report::{no_limits, report_text, verdicts_hold};
+use spice_grid::names_are_words;
 use std::alloc::{AllocError, Global};
 
 /// Signs off the text of a netlist, whose file has this name, with what the solver proposes.
@@ -35,11 +36,11 @@ pub fn sign_off<V: Solver>(
     netlist_text: &[u8],
     solver: &mut V,
 ) -> Result<Signed, Answer>
-    // The two texts are those of a tight certificate of the merged network, and every solution of the netlist as it was
-    // written lies within the intervals that the report prints.
+    // The two texts are those of a tight certificate of the merged network, every solution of the netlist as it was
+    // written lies within the intervals that the report prints, and who checks the certificate finds that it holds.
     ensures signed { IfOk result (λ signed. (named : Named) × (merged : Groups) × (certificate : Certificate)
         × Signs (V.told solver.old) netlist_text.now named merged certificate signed
-        × LieWithinReport named merged certificate) }
+        × LieWithinReport named merged certificate × PassesCheck merged signed) }
     ensures refused { IfErr result (λ answer. IsUnsigned netlist.now netlist_text.now answer) }
 
     // The solver was asked, and what it tells stays.
@@ -57,15 +58,18 @@ fn sign_network<V: Solver>(alloc: Global, merged: Merged, solver: &mut V) -> Res
     requires { length merged.names ≡ merged.net.nodes }
     ensures signed { IfOk result (λ signed. (text : List ℕ) (named : Named) → GivesNetwork text named merged
         → (certificate : Certificate) × Signs (V.told solver.old) text named merged certificate signed
-        × LieWithinReport named merged certificate) }
+        × LieWithinReport named merged certificate × PassesCheck merged signed) }
     ensures refused { IfErr result (λ answer. (file text : List ℕ) (named : Named) → GivesNetwork text named merged
         → IsUnsigned file text answer) }
     ensures asked { IsOk result → Rose (V.proposals solver.old) (V.proposals solver.new) }
     ensures told { V.told solver.new ≡ V.told solver.old }
 {
     solutions_by_groups();
+    names_are_words();
+    merged_names();
     let Merged { net, names, .. } = merged;
     let names = names.as_slice();
+    written_certificates_read_back(names);
     if let Err(node) = net.supply() {
         return Err(unsupplied(alloc, names, node));
     }

@@ -1,6 +1,6 @@
 use Rattle.pdn_signoff.specs.Solve.{SolverThen}
 use Rattle.pdn_signoff.proofs.Causes.{AreLaws, not_solve, ran_other, kept, calm, usage, refused, certified, judged, bounded}
-use Rattle.pdn_signoff.proofs.Signing.{AreSolvingLaws, others, signed, asked, solved}
+use Rattle.pdn_signoff.proofs.Signing.{AreSolvingLaws, others, signed, accepted, asked, solved}
 use Rattle.pdn_signoff.proofs.command.run.Goals as goal
 
 pub returns-clause-kept : goal.returns-clause-kept
@@ -86,6 +86,18 @@ returns-clause-signed g c =
       one_command = c.words_have_one_command.ensures;
     } in
     signed laws _ s s' _ _ _ _ _ c.run_command.ensures.answer
+
+pub returns-clause-accepted : goal.returns-clause-accepted
+returns-clause-accepted g c =
+    let s : SolverThen = record { told = g.V.Solver.told c.args.solver.now; proposals = g.V.Solver.proposals c.args.solver.now } in
+    let s' : SolverThen = record { told = g.V.Solver.told c.run_command.new.solver; proposals = g.V.Solver.proposals c.run_command.new.solver } in
+    let laws : AreLaws = record {
+      one = c.texts_are_judged_once.ensures.one;
+      tested = c.texts_are_judged_once.ensures.tested;
+      bounded = c.texts_are_judged_once.ensures.bounded;
+      one_command = c.words_have_one_command.ensures;
+    } in
+    accepted laws _ s s' _ _ _ _ _ c.run_command.ensures.answer
 
 pub returns-clause-asked : goal.returns-clause-asked
 returns-clause-asked g c =

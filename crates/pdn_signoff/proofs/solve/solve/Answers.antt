@@ -1,4 +1,4 @@
-use Rattle.std.proofs.Common.{◌≡◌, ◌≤◌, ℕ, List, Err, length, refl, sym, ap, subst, arith}
+use Rattle.std.proofs.Common.{◌≤◌, ℕ, List, Err, length, refl, ap, subst, arith}
 use Rattle.outside.specs.Whole.{longest_text}
 use Rattle.solving.specs.Refusal.{IsUnsigned}
 use Rattle.solving.specs.Signed.{Signs}
@@ -25,7 +25,7 @@ returns-in-Ok-sign_off-clause-solves g c =
     let mid : FilesThen = record { known = g.F.Files.known c.read_whole.new.files; counts = g.F.Files.counts c.read_whole.new.files } in
     let after : FilesThen = record { known = g.F.Files.known c.write_signed.new.files; counts = g.F.Files.counts c.write_signed.new.files } in
     let signed = c.in-Ok-sign_off.signed in
-    let (named, merged, certificate, signs, within) = c.in-Ok-sign_off.ensures.signed in
+    let (named, merged, certificate, signs, within, checked) = c.in-Ok-sign_off.ensures.signed in
     let file : SignsFile solver.told before.known c.args.netlist.now signed = record {
       text = c.in-Ok.text.items;
       text_is = c.in-Ok.ensures.bytes;
@@ -35,6 +35,7 @@ returns-in-Ok-sign_off-clause-solves g c =
       certificate = certificate;
       signs = subst (λ (t : List ℕ). Signs solver.told t named merged certificate signed) c.deref.ensures.value signs;
       within = within;
+      checked = checked;
     } in
     let written : Writes before after c.args.certificate.now c.args.report.now signed c.write_signed.result =
     subst (λ (f : FilesThen). Writes f after c.args.certificate.now c.args.report.now signed c.write_signed.result) (same_files mid before c.in-Ok.ensures.kept c.in-Ok.ensures.calm) c.write_signed.ensures in

@@ -1,2 +1,0 @@
-use Rattle.solving.proofs.Within.{limits_are}
-use Rattle.solving.proofs.sign.texts.Goals as goal

@@ -1,0 +1,2 @@
+pub mod OnPieces
+pub mod Answers

@@ -1,0 +1,78 @@
+-- The network of a drawn grid, a design and a bias file, and what refuses it (this project).
+use Rattle.std.specs.Prelude.{◌≡◌, ◌⊎◌, ℕ, ◌<◌, ◌^◌, List, All, length}
+use Rattle.name_table.specs.Numbering.{AreDistinct}
+use Rattle.via_arrays.specs.Lengths.{IsUnits}
+use Rattle.lef_tech.specs.declared.tech.Tech.{Tech}
+use Rattle.lef_cells.specs.declared.record.Cells.{Cells}
+use Rattle.def_design.specs.declared.record.Design.{Design}
+use Rattle.bias_file.specs.declared.record.Bias.{Bias}
+use Rattle.grid_pieces.specs.declared.grid.Grid.{Grid}
+use Rattle.grid_network.specs.declared.error.ExtractError.{ExtractError}
+use Rattle.grid_network.specs.declared.error.ExtractError.TheVariants.{UnknownName, NoSupply, PadOff, LoadOff, Net, Want}
+use Rattle.grid_network.specs.declared.extracted.Extracted.{Extracted}
+use Rattle.grid_network.specs.declared.pad.PadOn.{PadOn}
+use Rattle.grid_network.specs.declared.pad.Tap.{Tap}
+use Rattle.grid_network.specs.Asked.{IsPieceOf, IsStackOf}
+use Rattle.grid_network.specs.Drawing.{Drawing}
+use Rattle.grid_network.specs.Network.{IsNetworkOf, IsRefused}
+use Rattle.grid_taps.specs.Naming.{NamesNoNet, NamesNoCell, NoneIs, IsLeast}
+use Rattle.grid_taps.specs.Pads.{ArePads}
+use Rattle.grid_taps.specs.Refusals.{LacksSupply, IsPadOff}
+use Rattle.grid_taps.specs.Taps.{AreTaps, IsLoadOff}
+
+-- What is asked of the grid, which a drawing has: its units are in their range, its nets have different names, and its
+-- pieces and stacks are of its nets and of the technology's layers. Pieces and stacks have numbers of 32 bits.
+pub record GridKeeps (grid : Grid) (tech : Tech) : Type 0 where
+  pub units : IsUnits grid.units
+  pub nets : AreDistinct grid.nets
+  pub pieces : All (IsPieceOf grid tech) grid.pieces
+  pub stacks : All (IsStackOf grid tech) grid.stacks
+  pub few_pieces : length grid.pieces < 2 ^ 32
+  pub few_stacks : length grid.stacks < 2 ^ 32
+
+-- A line of the bias file with this number names no net of the grid, no routing layer, no macro or no component.
+abbrev pub NamesNothing : Grid → Tech → Cells → Design → Bias → ℕ → Type 0
+NamesNothing grid tech cells design bias line = NamesNoNet grid tech bias line ⊎ NamesNoCell cells design bias line
+
+-- The pads of the bias file and the load taps of the components, where nothing refuses them.
+pub record AllStand (grid : Grid) (tech : Tech) (cells : Cells) (design : Design) (bias : Bias) (pads : List PadOn)
+    (taps : List Tap) : Type 0 where
+  pub known : NoneIs (NamesNothing grid tech cells design bias)
+  pub supplied : NoneIs (LacksSupply grid bias)
+  pub on_metal : NoneIs (IsPadOff grid tech bias)
+  pub on_rails : NoneIs (IsLoadOff grid cells bias design.components)
+  pub pads_are : ArePads grid tech bias pads
+  pub taps_are : AreTaps grid cells bias design.components taps
+
+-- The grid with its pads and its load taps.
+abbrev pub drawing_of : Grid → List PadOn → List Tap → Drawing
+drawing_of grid pads taps = record { grid = grid; pads = pads; taps = taps }
+
+-- The answer: nothing refuses the pads and the taps, and it is the network of the grid with them.
+pub record IsExtracted (grid : Grid) (tech : Tech) (cells : Cells) (design : Design) (bias : Bias) (e : Extracted)
+    : Type 0 where
+  pub pads : List PadOn
+  pub taps : List Tap
+  pub stand : AllStand grid tech cells design bias pads taps
+  pub network : IsNetworkOf (drawing_of grid pads taps) tech e
+
+-- The network of the grid with its pads and taps is refused.
+pub record IsNetRefused (grid : Grid) (tech : Tech) (cells : Cells) (design : Design) (bias : Bias)
+    (error : ExtractError) : Type 0 where
+  pub pads : List PadOn
+  pub taps : List Tap
+  pub stand : AllStand grid tech cells design bias pads taps
+  pub refused : IsRefused (drawing_of grid pads taps) tech error
+
+-- The refusals, in their order; of one kind the earliest line, net or component is named. Want of memory is free.
+abbrev pub IsExtractRefused : Grid → Tech → Cells → Design → Bias → ExtractError → Type 0
+IsExtractRefused grid tech cells design bias (UnknownName line) = IsLeast (NamesNothing grid tech cells design bias) line
+IsExtractRefused grid tech cells design bias (NoSupply net) = NoneIs (NamesNothing grid tech cells design bias)
+    × IsLeast (LacksSupply grid bias) net
+IsExtractRefused grid tech cells design bias (PadOff line) = NoneIs (NamesNothing grid tech cells design bias)
+    × NoneIs (LacksSupply grid bias) × IsLeast (IsPadOff grid tech bias) line
+IsExtractRefused grid tech cells design bias (LoadOff component) = NoneIs (NamesNothing grid tech cells design bias)
+    × NoneIs (LacksSupply grid bias) × NoneIs (IsPadOff grid tech bias)
+    × IsLeast (IsLoadOff grid cells bias design.components) component
+IsExtractRefused grid tech cells design bias (Net error) = IsNetRefused grid tech cells design bias (Net error)
+IsExtractRefused grid tech cells design bias Want = Unit {0}

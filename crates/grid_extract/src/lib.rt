@@ -1,0 +1,8 @@
+//! From a drawn grid, the cells, the design and the bias file to the network of resistors with its pads and loads.
+#![tactic(auto)]
+
+mod extraction;
+#[cfg(test)]
+mod tests;
+
+pub use extraction::extract;

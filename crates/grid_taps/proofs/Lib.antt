@@ -1,0 +1,16 @@
+pub mod Missed
+pub mod Firsts
+pub mod Found
+pub mod Pieces
+pub mod RailLemmas
+pub mod RailSteps
+pub mod Ordered
+pub mod OnPieces
+pub mod Unique
+pub mod Supplies
+pub mod Tables
+pub mod Unknown
+pub mod PadLemmas
+pub mod StandSteps
+pub mod TapSteps
+pub mod TapAnswer

@@ -1,0 +1,6 @@
+pub mod Naming
+pub mod Pads
+pub mod Rails
+pub mod Taps
+pub mod Refusals
+pub mod inside

@@ -1,0 +1,22 @@
+//! Where the pads and the load taps of a drawn grid stand: `pads` for the pad lines of a bias file, and `taps` for the
+//! components of a design that draw a current.
+#![tactic(auto)]
+
+mod bounds;
+mod column;
+mod index;
+mod line;
+mod named;
+mod on_piece;
+mod rail;
+mod range;
+mod standing;
+mod supply;
+mod tapping;
+#[cfg(test)]
+mod tests;
+mod tree;
+
+pub use column::Column;
+pub use standing::pads;
+pub use tapping::taps;

@@ -1,0 +1,6 @@
+pub mod Line
+pub mod Via
+pub mod Wiring
+pub mod Written
+pub mod Limits
+pub mod inside

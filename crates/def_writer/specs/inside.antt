@@ -1,0 +1,5 @@
+pub mod Line
+pub mod Via
+pub mod Wiring
+pub mod Nets
+pub mod Tested

@@ -1,0 +1,10 @@
+pub mod Sort
+pub mod Section
+pub mod Rule
+pub mod Number
+pub mod Unit
+pub mod Standing
+pub mod Fault
+pub mod Record
+pub mod Format
+pub mod inside

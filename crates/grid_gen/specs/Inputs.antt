@@ -1,0 +1,20 @@
+-- The five texts of a made-up design (this project; docs/GENERATOR.md).
+use Rattle.std.specs.Prelude.{◌≡◌, ℕ, ◌≤◌}
+use Rattle.grid_gen.specs.declared.inputs.Inputs.{Inputs}
+use Rattle.grid_gen.specs.declared.fixed.TheConstants.{TECHNOLOGY, CELLS, SCRIPT}
+use Rattle.grid_gen.specs.Design.{design_text}
+use Rattle.grid_gen.specs.Bias.{bias_text}
+
+-- A side: so many rows, and so many cells in each.
+pub record IsSide (side : ℕ) : Type 0 where
+  pub low : 24 ≤ side
+  pub high : side ≤ 300
+
+-- The technology, the cells and the script are always the same. The design and the bias file go by the side, and the
+-- number picks the cells of the components.
+pub record AreInputs (number side : ℕ) (inputs : Inputs) : Type 0 where
+  pub lef : inputs.lef ≡ TECHNOLOGY.now
+  pub cells : inputs.cells ≡ CELLS.now
+  pub def : inputs.def ≡ design_text number side
+  pub pdn : inputs.pdn ≡ SCRIPT.now
+  pub bias : inputs.bias ≡ bias_text side

@@ -1,0 +1,4 @@
+pub mod Part
+pub mod Inputs
+pub mod Design
+pub mod Bias

@@ -1,0 +1,10 @@
+//! Several outputs, written one after the other.
+#![tactic(auto)]
+
+mod output;
+#[cfg(test)]
+mod tests;
+mod writing;
+
+pub use output::{Output, Unwritten};
+pub use writing::write_each;

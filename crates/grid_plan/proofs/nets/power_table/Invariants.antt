@@ -1,0 +1,6 @@
+use Rattle.std.proofs.Common.{◌≡◌, map, take}
+use Rattle.pdn_script.specs.declared.record.Domain.{Domain}
+use Rattle.grid_plan.proofs.nets.power_table.Given as goal
+
+abbrev pub invariant-loop-domain : goal.invariant-loop-domain
+invariant-loop-domain l = map (λ n. n.now) l.names.items ≡ map (λ (domain : Domain). domain.power) (take l.domain-index l.domains)

@@ -1,0 +1,21 @@
+use Rattle.std.proofs.Common.{◌≡◌, true, ◌&&◌, SFits, w64, rules, sym, ap, ◌∙◌}
+use Rattle.std.proofs.lemmas.Int.{to_z-of_z}
+use Rattle.grid_plan.specs.Regions.{spans_meet}
+use Rattle.grid_plan.proofs.span.meet.Goals as goal
+
+pub returns-then-spans_meet : goal.returns-then-spans_meet
+returns-then-spans_meet c =
+    let a = c.args.a in
+    let b = c.args.b in
+    let ax1 : SFits w64 a.x1 = search rules in
+    let ay1 : SFits w64 a.y1 = search rules in
+    let ax2 : SFits w64 a.x2 = search rules in
+    let ay2 : SFits w64 a.y2 = search rules in
+    let bx1 : SFits w64 b.x1 = search rules in
+    let by1 : SFits w64 b.y1 = search rules in
+    let bx2 : SFits w64 b.x2 = search rules in
+    let by2 : SFits w64 b.y2 = search rules in
+    let told : c.spans_meet.result ≡ spans_meet a.x1 a.x2 b.x1 b.x2 = simp to_z-of_z at c.spans_meet.ensures in
+    let first : spans_meet a.x1 a.x2 b.x1 b.x2 ≡ true = sym told ∙ c.if-spans_meet.true in
+    let second : c.spans_meet-then-spans_meet.result ≡ spans_meet a.y1 a.y2 b.y1 b.y2 = simp to_z-of_z at c.spans_meet-then-spans_meet.ensures in
+    second ∙ sym (ap (λ z. z && spans_meet a.y1 a.y2 b.y1 b.y2) first)

@@ -1,0 +1,11 @@
+pub mod Names
+pub mod Order
+pub mod Unknown
+pub mod Resolved
+pub mod Rows
+pub mod Turned
+pub mod Lengths
+pub mod Regions
+pub mod Planning
+pub mod Keeping
+pub mod inside

@@ -1,0 +1,4 @@
+pub mod Site
+pub mod Shapes
+pub mod Drawing
+pub mod inside

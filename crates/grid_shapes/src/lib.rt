@@ -1,0 +1,12 @@
+//! What a script draws over a design: the shapes of its straps, rails and rings, and the whole grid.
+#![tactic(auto)]
+
+mod drawing;
+mod reach;
+mod shaping;
+mod site;
+#[cfg(test)]
+mod tests;
+
+pub use drawing::draw;
+pub use shaping::shapes;

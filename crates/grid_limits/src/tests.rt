@@ -1,3 +1,4 @@
+ghost use Rattle.std.specs.Prelude.{◌≡◌, IfOk};
 ghost use Rattle.lef_tech.specs.Limits.{TechKeeps};
 
 use super::*;
@@ -18,7 +19,9 @@ const TECH: &[u8] =
 const BIAS: &[u8] = b"supply VDD 1.1\ndroplimit VDD 0.1\n";
 
 // A strap of the small design, of the second of two nets.
-fn grid(alloc: Global) -> Result<Grid, AllocError> {
+fn grid(alloc: Global) -> Result<Grid, AllocError>
+    ensures { IfOk result (λ grid. grid.units ≡ 2000) }
+{
     let strap = Piece {
         net: 1,
         layer: 0,

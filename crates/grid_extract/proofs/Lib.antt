@@ -1,2 +1,3 @@
 pub mod OnPieces
 pub mod Answers
+pub mod Agreeing

@@ -1,5 +1,5 @@
 -- Pads and taps lie on their pieces.
-use Rattle.std.proofs.Common.{◌≡◌, ◌⊎◌, inl, inr, ℕ, ◌<◌, ℤ, pos, neg_ℤ, ◌≤ℤ◌, List, [], ◌∷◌, ◌++◌, length, get_or, All, Contains, refl, sym, ap, ◌∙◌, subst, arith}
+use Rattle.std.proofs.Common.{◌≡◌, ◌⊎◌, inl, inr, ℕ, ℤ, pos, neg_ℤ, ◌≤ℤ◌, List, [], ◌∷◌, get_or, All, sym, ◌∙◌, subst, arith}
 use Rattle.std.proofs.lemmas.Int.{ints}
 use Rattle.std.proofs.lemmas.List.{get_or_default}
 use Rattle.std.proofs.lemmas.List.Elements.{All-nil, All-cons, All-append, All-contains}
@@ -23,13 +23,13 @@ use Rattle.grid_network.specs.declared.pad.Tap.{Tap}
 use Rattle.grid_network.specs.Asked.{IsOnPiece, IsDrawing}
 use Rattle.grid_network.specs.Drawing.{piece_at}
 use Rattle.grid_taps.specs.Naming.{At}
-use Rattle.grid_taps.specs.Pads.{place_along, StandsOn, IsPadOn, AreOnPieces, InOrder, ArePads}
+use Rattle.grid_taps.specs.Pads.{place_along, IsPadOn, AreOnPieces, InOrder, ArePads}
 use Rattle.grid_taps.specs.Rails.{IsLowestRail}
-use Rattle.grid_taps.specs.Taps.{IsLine, IsRange, tap_pair, AreTapsOf, AreTapsFor, AreTaps}
+use Rattle.grid_taps.specs.Taps.{IsLine, IsRange, AreTapsOf, AreTapsFor, AreTaps}
 use Rattle.grid_extract.specs.Extraction.{GridKeeps, drawing_of}
 
 -- what each source gives has the property, so all has
-all_in_order : {S E : Type 0} (gives : S → List E → Type 0) (P : E → Type 0) → ((s : S) (es : List E) → gives s es → All P es) → (ss : List S) (es : List E)
+pub all_in_order : {S E : Type 0} (gives : S → List E → Type 0) (P : E → Type 0) → ((s : S) (es : List E) → gives s es → All P es) → (ss : List S) (es : List E)
     → InOrder gives ss es → All P es
 all_in_order {S} {E} gives P each [] es none = subst (λ (z : List E). All P z) (sym none) (All-nil P)
 all_in_order {S} {E} gives P each (s ∷ ss) es (first, rest, given, others, join) =

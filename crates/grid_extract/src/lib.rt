@@ -2,7 +2,9 @@
 #![tactic(auto)]
 
 mod extraction;
+mod laws;
 #[cfg(test)]
 mod tests;
 
 pub use extraction::extract;
+pub use laws::no_bad_end_nor_conflict;

@@ -1,3 +1,13 @@
 pub mod Numbers
 pub mod Standings
 pub mod Law
+pub mod Spelled
+pub mod Digits
+pub mod Sorts
+pub mod Facts
+pub mod Blocks
+pub mod ViaUnits
+pub mod LineUnits
+pub mod NetUnits
+pub mod HeadUnits
+pub mod ReadBack

@@ -7,4 +7,5 @@ pub mod Standing
 pub mod Fault
 pub mod Record
 pub mod Format
+pub mod Written
 pub mod inside

@@ -20,7 +20,7 @@ mod taking;
 mod unit;
 
 pub use error::{WiringError, WiringKind};
-pub use laws::texts_have_one_wiring;
+pub use laws::{texts_have_one_wiring, whole_wirings_are_read, written_wirings_read_back};
 pub use number::{NUMBER_LIMIT, UNITS_LIMIT};
 pub use read::read_wiring;
 pub use record::{PlaceText, ViaText, WireText, Wiring};

@@ -2,12 +2,14 @@
 ghost use Rattle.std.specs.Prelude.{◌≡◌, IfOk};
 ghost use Rattle.answers.specs.Answer.{status_of, line_of};
 
+use crate::built::Built;
 use crate::kind::TextKind;
 use crate::line::{
-    certified_line, conflict_line, file_line, not_certified_line, range_line, refused_line,
-    solved_line,
+    built_line, certified_line, conflict_line, file_line, not_certified_line, range_line,
+    refused_line, solved_line,
 };
 use bound_check::Side;
+use entry_list::Entries;
 use grid_net::Quantity;
 use outside::{Name, Place};
 use std::alloc::{AllocError, Global};
@@ -31,6 +33,8 @@ pub enum Answer {
         place: Place,
         kind: TextKind,
     },
+    /// No grid is drawn, or no network extracted from it: why, in words.
+    NoGrid(Entries<u8>),
     /// A quantity of the network passes its limit. `at` is the place of the entry, from 0, or 0 for a number of the whole
     /// network.
     Range {
@@ -46,6 +50,10 @@ pub enum Answer {
     },
     /// No chain of resistors joins the node of this name to a pad: the first such node.
     Unsupplied(Name),
+    /// The grid is drawn, certified and written, with these numbers.
+    Built(Built),
+    /// The texts of a made-up design are written.
+    Generated,
     /// The network, of this many nodes and resistors, was certified in so many sweeps.
     Solved {
         nodes: u32,
@@ -65,10 +73,12 @@ impl Answer {
         ensures { result ≡ status_of self.now }
     {
         match self {
-            Answer::Certified(_) | Answer::Solved { .. } => 0,
+            Answer::Certified(_) | Answer::Solved { .. } | Answer::Generated => 0,
+            Answer::Built(built) => built.status(),
             Answer::Usage => 2,
             Answer::ReadFault(_) | Answer::WriteFault(_) => 3,
             Answer::TooLong(_) | Answer::Refused { .. } => 4,
+            Answer::NoGrid(_) => 5,
             Answer::Range { .. } | Answer::PadConflict { .. } => 6,
             Answer::Unsupplied(_) => 7,
             Answer::NotCertified(..) => 9,
@@ -89,6 +99,7 @@ impl Answer {
             Answer::Refused { file, place, kind } => {
                 refused_line(alloc, file.bytes(), *place, *kind)
             }
+            Answer::NoGrid(words) => file_line(alloc, b"pdn: ", words.as_slice(), b"\n"),
             Answer::Range {
                 quantity,
                 at,
@@ -100,6 +111,8 @@ impl Answer {
                 second,
             } => conflict_line(alloc, node.bytes(), *first, *second),
             Answer::Unsupplied(node) => file_line(alloc, b"pdn: Unsupplied ", node.bytes(), b"\n"),
+            Answer::Built(built) => built_line(alloc, *built),
+            Answer::Generated => Vec::from_slice(alloc, b"generated\n"),
             Answer::Solved {
                 nodes,
                 resistors,

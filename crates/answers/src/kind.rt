@@ -19,10 +19,51 @@ pub enum TextKind {
     OutOfRange,
     /// The name of a certificate's line is not that of the node in its place.
     WrongNode,
+    /// A quote or a brace begins here that is not closed by the end of the text.
+    BadString,
+    /// A script has a `$`, a `[` or a backslash that joins no lines here, outside braces and comments.
+    Substitution,
+    /// The word is a name or an option that stands before, or begins again what stands once alone.
+    Twice,
+    /// A technology's generate rule names a layer that no section before has.
+    UnknownLayer,
+    /// The points of a technology's table do not rise here, or it has more or fewer entries than points.
+    BadTable,
+    /// A design's word begins a third point of the die, or a polygon of a blockage.
+    Polygon,
+    /// A design's row is turned by it to another side than N, S, FN and FS, or has more than one site in the other
+    /// direction.
+    RowForm,
+    /// A design's special net has wires.
+    AlreadyRouted,
+    /// A design ends without its name.
+    MissingDesign,
+    /// A design ends without its units.
+    MissingUnits,
+    /// A design ends without its die.
+    MissingDieArea,
+    /// A script's command follows `pdngen`.
+    AfterPdngen,
+    /// A script's command is not known.
+    UnknownCommand,
+    /// A script's option is one of the manual that is left out.
+    OutOfProfile,
+    /// A script's command has no such option, or has it on grids with `-macro` alone.
+    UnknownOption,
+    /// No command before in a script has defined the grid, or any grid.
+    UnknownGrid,
+    /// No command before in a script has defined the domain, or any domain.
+    UnknownDomain,
+    /// A script's command ends without an option that it needs.
+    MissingOption,
+    /// A script names the net as power and as ground.
+    NetUse,
+    /// A bias file's word is the second number of a range, and its value is below that of the first.
+    Falling,
 }
 
 impl TextKind {
-    /// The words for the kind; for a number the inner name stands after a blank.
+    /// The words for the kind; for a number, and for what is missing, the inner name stands after a blank.
     pub fn words(self) -> &'static [u8]
         ensures { result.now ≡ kind_words self }
     {
@@ -35,6 +76,26 @@ impl TextKind {
             TextKind::Number(DecimalError::Range) => b"Number Range",
             TextKind::OutOfRange => b"OutOfRange",
             TextKind::WrongNode => b"WrongNode",
+            TextKind::BadString => b"BadString",
+            TextKind::Substitution => b"Substitution",
+            TextKind::Twice => b"Twice",
+            TextKind::UnknownLayer => b"UnknownLayer",
+            TextKind::BadTable => b"BadTable",
+            TextKind::Polygon => b"Polygon",
+            TextKind::RowForm => b"RowForm",
+            TextKind::AlreadyRouted => b"AlreadyRouted",
+            TextKind::MissingDesign => b"Missing Design",
+            TextKind::MissingUnits => b"Missing Units",
+            TextKind::MissingDieArea => b"Missing DieArea",
+            TextKind::AfterPdngen => b"AfterPdngen",
+            TextKind::UnknownCommand => b"UnknownCommand",
+            TextKind::OutOfProfile => b"OutOfProfile",
+            TextKind::UnknownOption => b"UnknownOption",
+            TextKind::UnknownGrid => b"UnknownGrid",
+            TextKind::UnknownDomain => b"UnknownDomain",
+            TextKind::MissingOption => b"MissingOption",
+            TextKind::NetUse => b"NetUse",
+            TextKind::Falling => b"Falling",
         }
     }
 }

@@ -2,8 +2,10 @@
 #![tactic(auto)]
 
 mod answer;
+mod built;
 mod kind;
 mod line;
 
 pub use answer::Answer;
+pub use built::Built;
 pub use kind::TextKind;

@@ -2,8 +2,9 @@
 ghost use Rattle.std.specs.Prelude.{◌≡◌, ◌++◌, IfOk, codes, decimal};
 ghost use Rattle.std.specs.Fmt.{signed_decimal};
 ghost use Rattle.fixed_decimal.specs.Printed.{printed};
-ghost use Rattle.answers.specs.Answer.{kind_words, quantity_word, side_word};
+ghost use Rattle.answers.specs.Answer.{grid_words, kind_words, quantity_word, side_word, verdict_words};
 
+use crate::built::Built;
 use crate::kind::TextKind;
 use bound_check::Side;
 use fixed_decimal::print;
@@ -118,6 +119,17 @@ pub(crate) fn certified_line(alloc: Global, nodes: u32) -> Result<Vec<u8>, Alloc
         buffer.format(nodes).as_bytes(),
         b" nodes\n",
     )
+}
+
+/// The line of a grid that is built.
+pub(crate) fn built_line(alloc: Global, built: Built) -> Result<Vec<u8>, AllocError>
+    ensures { IfOk result (λ line. line.items ≡ codes "built " ++ grid_words built ++ verdict_words built ++ codes "\n") }
+{
+    let mut line = Vec::from_slice(alloc, b"built ")?;
+    built.append_grid(&mut line)?;
+    built.append_verdicts(&mut line)?;
+    line.extend_from_slice(b"\n")?;
+    Ok(line)
 }
 
 /// The line of a network that was certified in so many sweeps.

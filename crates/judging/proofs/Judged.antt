@@ -29,7 +29,7 @@ use Rattle.spice_grid.specs.declared.error.SpiceKind.TheVariants as spice
 use Rattle.spice_grid.specs.declared.named.Named.{Named}
 use Rattle.spice_grid.specs.Netlist.{ReadsNetlist, IsAtWord, NamedKeeps}
 use Rattle.answers.specs.declared.answer.Answer.{Answer}
-use Rattle.answers.specs.declared.answer.Answer.TheVariants.{Usage, Want, ReadFault, WriteFault, TooLong, Refused, Range, PadConflict, Unsupplied, Solved, Certified, NotCertified}
+use Rattle.answers.specs.declared.answer.Answer.TheVariants.{Usage, Want, ReadFault, WriteFault, TooLong, Refused, NoGrid, Range, PadConflict, Unsupplied, Built, Generated, Solved, Certified, NotCertified}
 use Rattle.judging.specs.Texts.{HasNetwork, StandFor, GivesOne, IsVerdict, SolutionsLieBetween}
 use Rattle.judging.specs.Judging.{network_answer, netlist_answer, certificate_answer, RefusesNetlist, RefusesMerge, RefusesCertificate, Tests, Judges}
 use Rattle.judging.specs.Stage.{GivesNetwork, HasNoNetwork, IsToNetlist, IsToTexts}
@@ -84,9 +84,12 @@ answer_is_want (ReadFault file) = inr (λ e. cc)
 answer_is_want (WriteFault file) = inr (λ e. cc)
 answer_is_want (TooLong file) = inr (λ e. cc)
 answer_is_want (Refused file place kind) = inr (λ e. cc)
+answer_is_want (NoGrid refusal) = inr (λ e. cc)
 answer_is_want (Range quantity at number) = inr (λ e. cc)
 answer_is_want (PadConflict node first second) = inr (λ e. cc)
 answer_is_want (Unsupplied node) = inr (λ e. cc)
+answer_is_want (Built built) = inr (λ e. cc)
+answer_is_want Generated = inr (λ e. cc)
 answer_is_want (Solved nodes resistors sweeps) = inr (λ e. cc)
 answer_is_want (Certified nodes) = inr (λ e. cc)
 answer_is_want (NotCertified node side found) = inr (λ e. cc)
@@ -275,9 +278,12 @@ netlist_to_texts (ReadFault file) x = x
 netlist_to_texts (WriteFault file) x = x
 netlist_to_texts (TooLong file) x = x
 netlist_to_texts (Refused file place kind) x = tt
+netlist_to_texts (NoGrid refusal) x = x
 netlist_to_texts (Range quantity at number) x = tt
 netlist_to_texts (PadConflict node first second) x = tt
 netlist_to_texts (Unsupplied node) x = x
+netlist_to_texts (Built built) x = x
+netlist_to_texts Generated x = x
 netlist_to_texts (Solved nodes resistors sweeps) x = x
 netlist_to_texts (Certified nodes) x = tt
 netlist_to_texts (NotCertified node side found) x = tt

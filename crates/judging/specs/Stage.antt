@@ -5,7 +5,7 @@ use Rattle.short_merge.specs.declared.merged.Merged.{Merged}
 use Rattle.spice_grid.specs.declared.named.Named.{Named}
 use Rattle.spice_grid.specs.Netlist.{NamedKeeps}
 use Rattle.answers.specs.declared.answer.Answer.{Answer}
-use Rattle.answers.specs.declared.answer.Answer.TheVariants.{Usage, Want, ReadFault, WriteFault, TooLong, Refused, Range, PadConflict, Unsupplied, Solved, Certified, NotCertified}
+use Rattle.answers.specs.declared.answer.Answer.TheVariants.{Usage, Want, ReadFault, WriteFault, TooLong, Refused, NoGrid, Range, PadConflict, Unsupplied, Built, Generated, Solved, Certified, NotCertified}
 use Rattle.judging.specs.Texts.{HasNetwork}
 use Rattle.judging.specs.Judging.{RefusesNetlist, RefusesMerge}
 
@@ -27,6 +27,7 @@ HasNoNetwork file text answer = (answer ≡ Want) ⊎ (RefusesNetlist file text 
 abbrev pub IsToNetlist : Answer → Type 0
 IsToNetlist Want = ⊤
 IsToNetlist (Refused file place kind) = ⊤
+IsToNetlist (NoGrid refusal) = ⊥
 IsToNetlist (Range quantity at number) = ⊤
 IsToNetlist (PadConflict node first second) = ⊤
 IsToNetlist Usage = ⊥
@@ -34,6 +35,8 @@ IsToNetlist (ReadFault file) = ⊥
 IsToNetlist (WriteFault file) = ⊥
 IsToNetlist (TooLong file) = ⊥
 IsToNetlist (Unsupplied node) = ⊥
+IsToNetlist (Built built) = ⊥
+IsToNetlist Generated = ⊥
 IsToNetlist (Solved nodes resistors sweeps) = ⊥
 IsToNetlist (Certified nodes) = ⊥
 IsToNetlist (NotCertified node side found) = ⊥

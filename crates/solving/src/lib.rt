@@ -9,7 +9,7 @@ mod sign;
 mod signed;
 
 pub use laws::netlists_are_solved_once;
-pub use sign::sign_off;
+pub use sign::{sign_off, unsupplied};
 pub use signed::Signed;
 
 #[cfg(test)]

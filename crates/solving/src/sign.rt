@@ -103,8 +103,8 @@ fn texts(alloc: Global, certified: &Certified, names: &[Name]) -> Result<Signed,
     })
 }
 
-/// The answer to a node that lacks supply.
-fn unsupplied(alloc: Global, names: &[Name], node: u32) -> Answer
+/// The answer to a node that lacks supply: its name, or want of memory.
+pub fn unsupplied(alloc: Global, names: &[Name], node: u32) -> Answer
     requires { node < length names.now }
     ensures { (result ≡ Want)
         ⊎ ((name : List ℕ) × (slice_get names.now node ≡ Some name) × (result ≡ Unsupplied name)) }

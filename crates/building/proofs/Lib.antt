@@ -1,0 +1,4 @@
+mod Reading
+mod Refusing
+mod Signs
+mod Sorts

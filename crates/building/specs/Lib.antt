@@ -1,0 +1,7 @@
+pub mod Inputs
+pub mod Kinds
+pub mod Reading
+pub mod Building
+pub mod Refusal
+pub mod Solutions
+pub mod inside

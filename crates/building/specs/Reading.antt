@@ -1,0 +1,86 @@
+-- The reading of the five texts: what they say together, and which of them is refused first.
+use Rattle.std.specs.Prelude.{◌≡◌, ◌⊎◌, ℕ, List, Option, Some, None, Result, Ok, Err}
+use Rattle.outside.specs.declared.place.Place.{Place}
+use Rattle.answers.specs.declared.answer.Answer.{Answer}
+use Rattle.answers.specs.declared.answer.Answer.TheVariants.{Want, Refused}
+use Rattle.answers.specs.declared.kind.TextKind.{TextKind}
+use Rattle.reading.specs.declared.error.ReadError.{ReadError}
+use Rattle.lef_tech.specs.Format.{ReadsTech}
+use Rattle.lef_cells.specs.declared.record.Cells.{Cells}
+use Rattle.lef_cells.specs.Format.{ReadsCells}
+use Rattle.lef_cells.specs.Join.{joined}
+use Rattle.def_design.specs.Format.{ReadsDesign}
+use Rattle.pdn_script.specs.Format.{ReadsScript}
+use Rattle.bias_file.specs.Format.{ReadsBias}
+use Rattle.building.specs.declared.records.Records.{Records}
+use Rattle.building.specs.Inputs.{FileText, FiveTexts}
+use Rattle.building.specs.Kinds.{tech_kind, cells_kind, def_kind, script_kind, bias_kind}
+
+-- The sites and macros of two LEF texts: those of the first, and then those of the second whose names the first has not.
+pub record AreCellsOf (lef other : List ℕ) (cells : Cells) : Type 0 where
+  pub first : Cells
+  pub second : Cells
+  pub first_reads : ReadsCells lef (Ok first)
+  pub second_reads : ReadsCells other (Ok second)
+  pub sites : cells.sites ≡ joined (λ site. site.name) first.sites second.sites
+  pub macros : cells.macros ≡ joined (λ cell. cell.name) first.macros second.macros
+
+-- Each text has its record: the technology, the cells of both LEF texts, the design, the script and the bias file.
+pub record AreRecords (t : FiveTexts) (r : Records) : Type 0 where
+  pub tech : ReadsTech t.lef.text (Ok r.tech)
+  pub cells : AreCellsOf t.lef.text t.cells.text r.cells
+  pub design : ReadsDesign t.def.text (Ok r.design)
+  pub script : ReadsScript t.pdn.text (Ok r.script)
+  pub bias : ReadsBias t.bias.text (Ok r.bias)
+
+-- The answer to a text that is refused at a place; none is the kind of want of memory.
+abbrev pub text_answer : List ℕ → Place → Option TextKind → Answer
+text_answer file place None = Want
+text_answer file place (Some kind) = Refused file place kind
+
+-- A text has no record of its format, and the answer tells its file, the word and what is wrong with it.
+pub record IsRefused {R K : Type 0} (reads : List ℕ → Result R (ReadError K) → Type 0) (kind_of : K → Option TextKind)
+    (t : FileText) (answer : Answer) : Type 0 where
+  pub error : ReadError K
+  pub refused : reads t.text (Err error)
+  pub told : answer ≡ text_answer t.file error.place (kind_of error.kind)
+
+-- A text has a record of its format.
+abbrev pub HasRecord : {R K : Type 0} → (List ℕ → Result R (ReadError K) → Type 0) → FileText → Type 0
+HasRecord {R} reads t = (r : R) × reads t.text (Ok r)
+
+-- The text that is refused first. The text of the technology is read as a technology and then for its cells.
+abbrev pub RefusesTech : FiveTexts → Answer → Type 0
+RefusesTech t answer = IsRefused ReadsTech tech_kind t.lef answer
+
+abbrev pub RefusesOwnCells : FiveTexts → Answer → Type 0
+RefusesOwnCells t answer = HasRecord ReadsTech t.lef × IsRefused ReadsCells cells_kind t.lef answer
+
+abbrev pub RefusesCells : FiveTexts → Answer → Type 0
+RefusesCells t answer =
+    HasRecord ReadsTech t.lef × HasRecord ReadsCells t.lef × IsRefused ReadsCells cells_kind t.cells answer
+
+-- All LEF texts have their records.
+abbrev pub HasLef : FiveTexts → Type 0
+HasLef t = HasRecord ReadsTech t.lef × HasRecord ReadsCells t.lef × HasRecord ReadsCells t.cells
+
+abbrev pub RefusesDesign : FiveTexts → Answer → Type 0
+RefusesDesign t answer = HasLef t × IsRefused ReadsDesign def_kind t.def answer
+
+abbrev pub RefusesScript : FiveTexts → Answer → Type 0
+RefusesScript t answer = HasLef t × HasRecord ReadsDesign t.def × IsRefused ReadsScript script_kind t.pdn answer
+
+abbrev pub RefusesBias : FiveTexts → Answer → Type 0
+RefusesBias t answer =
+    HasLef t × HasRecord ReadsDesign t.def × HasRecord ReadsScript t.pdn × IsRefused ReadsBias bias_kind t.bias answer
+
+-- Why the texts are not read: memory ran out, or one of them is refused and none before it.
+abbrev pub IsUnread : FiveTexts → Answer → Type 0
+IsUnread t answer =
+    (answer ≡ Want)
+    ⊎ (RefusesTech t answer
+    ⊎ (RefusesOwnCells t answer
+    ⊎ (RefusesCells t answer
+    ⊎ (RefusesDesign t answer
+    ⊎ (RefusesScript t answer
+    ⊎ RefusesBias t answer)))))

@@ -1,0 +1,23 @@
+//! A power grid built and signed off: from the bytes of a technology, cells, a placed design, a script and a bias file to
+//! the texts of the drawn grid, of its network, of a tight certificate and of the report.
+//!
+//! The order is: the texts are read, the grid is drawn, its network is extracted, the supply is tested, the network is
+//! certified out of what a solver proposes, and all texts are made before anything is written. The definitions stand in
+//! `specs/`.
+#![tactic(auto)]
+
+mod drawing;
+mod input;
+mod kinds;
+mod laws;
+mod outputs;
+mod read_texts;
+mod records;
+mod signing;
+mod whole;
+
+pub use input::{Input, Inputs};
+pub use laws::answers_to_designs;
+pub use outputs::Outputs;
+pub use records::Records;
+pub use whole::build;

@@ -5,7 +5,7 @@ use Rattle.outside.specs.Counts.{FaultCounts, Rose}
 use Rattle.outside.specs.Files.{Holdings, bytes_in}
 use Rattle.outside.specs.Whole.{longest_text}
 use Rattle.answers.specs.declared.answer.Answer.{Answer}
-use Rattle.answers.specs.declared.answer.Answer.TheVariants.{Usage, Want, ReadFault, WriteFault, TooLong, Refused, Range, PadConflict, Unsupplied, Solved, Certified, NotCertified}
+use Rattle.answers.specs.declared.answer.Answer.TheVariants.{Usage, Want, ReadFault, WriteFault, TooLong, Refused, NoGrid, Range, PadConflict, Unsupplied, Built, Generated, Solved, Certified, NotCertified}
 use Rattle.judging.specs.Texts.{HasNetwork}
 use Rattle.short_merge.specs.declared.merged.Merged.{Merged}
 use Rattle.solving.specs.Refusal.{IsUnsigned}
@@ -27,9 +27,12 @@ alike_from (ReadFault file) b e = e
 alike_from (WriteFault file) b e = e
 alike_from (TooLong file) b e = e
 alike_from (Refused file place kind) b e = e
+alike_from (NoGrid refusal) b e = e
 alike_from (Range quantity at number) b e = e
 alike_from (PadConflict node first second) b e = e
 alike_from (Unsupplied node) b e = e
+alike_from (Built built) b e = e
+alike_from Generated b e = e
 alike_from (Solved nodes resistors sweeps) b e = (sweeps, sym e)
 alike_from (Certified nodes) b e = e
 alike_from (NotCertified node side found) b e = e
@@ -138,9 +141,12 @@ module _ (laws : AreSolvingLaws) (before after : FilesThen) (held : Holdings) (n
   stage_of solver solver' (TooLong file) some why =
       inr (inr (why.2, inl (ap TooLong why.0, of_held (λ h. longest_text < length (bytes_in h n)) before.known held known why.3)))
   stage_of solver solver' (Refused file place kind) some why = short_stage (Refused file place kind) some why
+  stage_of solver solver' (NoGrid refusal) some why = absurd why
   stage_of solver solver' (Range quantity at number) some why = short_stage (Range quantity at number) some why
   stage_of solver solver' (PadConflict node first second) some why = short_stage (PadConflict node first second) some why
   stage_of solver solver' (Unsupplied node) some why = short_stage (Unsupplied node) some why
+  stage_of solver solver' (Built built) some why = absurd why
+  stage_of solver solver' Generated some why = absurd why
   stage_of solver solver' (Solved nodes resistors sweeps) some (signed, file, none, numbers, asked, holds) =
       let e : file.text ≡ text = of_held (λ h. file.text ≡ bytes_in h n) before.known held known file.text_is in
       inr (inr (

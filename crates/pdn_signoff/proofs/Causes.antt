@@ -4,7 +4,7 @@ use Rattle.outside.specs.Counts.{Rose}
 use Rattle.outside.specs.Files.{Holdings, bytes_in}
 use Rattle.outside.specs.Whole.{longest_text}
 use Rattle.answers.specs.declared.answer.Answer.{Answer}
-use Rattle.answers.specs.declared.answer.Answer.TheVariants.{Usage, Want, ReadFault, WriteFault, TooLong, Refused, Range, PadConflict, Unsupplied, Solved, Certified, NotCertified}
+use Rattle.answers.specs.declared.answer.Answer.TheVariants.{Usage, Want, ReadFault, WriteFault, TooLong, Refused, NoGrid, Range, PadConflict, Unsupplied, Built, Generated, Solved, Certified, NotCertified}
 use Rattle.answers.specs.Answer.{status_of}
 use Rattle.bound_check.specs.Failing.{first_failing}
 use Rattle.certificate_file.specs.declared.lists.Lists.{Lists}
@@ -15,18 +15,21 @@ use Rattle.judging.specs.Judging.{Judges}
 use Rattle.short_merge.specs.declared.merged.Merged.{Merged}
 use Rattle.spice_grid.specs.declared.named.Named.{Named}
 use Rattle.command_words.specs.declared.command.Command.{Command}
-use Rattle.command_words.specs.declared.command.Command.TheVariants.{Check, Solve}
+use Rattle.command_words.specs.declared.command.Command.TheVariants.{Build, Check, Solve, Generate}
 use Rattle.command_words.specs.Words.{IsCommand}
-use Rattle.pdn_signoff.specs.Words.{IsCheck, IsNotSolve, IsUsage}
+use Rattle.pdn_signoff.specs.declared.design_files.DesignFiles.{DesignFiles}
+use Rattle.pdn_signoff.specs.Words.{IsCheck, IsGenerate, WriteNothing, IsUsage}
 use Rattle.pdn_signoff.specs.Check.{FilesThen, NoneFailed, AreTexts, JudgesFiles, Answers}
 use Rattle.pdn_signoff.specs.Solve.{SolverThen, IsKept, Solves}
 use Rattle.pdn_signoff.specs.Command.{SinkThen, IsCause, Ends, IsCheckOf, HasCertificate}
+use Rattle.pdn_signoff.proofs.Building.{no_usage_built, none_failed_built}
+use Rattle.pdn_signoff.proofs.Generating.{no_usage_made, none_failed_made}
 
 -- A run came to an answer that has its cause, and ended with it.
 abbrev pub Ran : List (List ℕ) → SolverThen → SolverThen → FilesThen → FilesThen → ℕ → SinkThen → SinkThen → Type 0
 Ran words solver solver' before after result out out' = (answer : Answer) × IsCause words solver solver' before after answer × Ends result out out' answer
 
--- The cause of an answer to words that are not those of `solve`.
+-- The cause of an answer to words of no command that writes files.
 abbrev pub IsOtherCause : List (List ℕ) → FilesThen → FilesThen → Answer → Type 0
 IsOtherCause words before after answer =
     ((answer ≡ Want) ⊎ ((answer ≡ Usage) × IsUsage words × NoneFailed before after))
@@ -35,20 +38,25 @@ IsOtherCause words before after answer =
 abbrev pub RanOther : List (List ℕ) → FilesThen → FilesThen → ℕ → SinkThen → SinkThen → Type 0
 RanOther words before after result out out' = (answer : Answer) × IsOtherCause words before after answer × Ends result out out' answer
 
-pub other_cause : (words : List (List ℕ)) (solver solver' : SolverThen) (before after : FilesThen) (answer : Answer) → IsNotSolve words → IsCause words solver solver' before after answer → IsOtherCause words before after answer
-other_cause words solver solver' before after answer not_solve (inl free) = inl free.1
-other_cause words solver solver' before after answer not_solve (inr (inl (n, c, is, kept, why))) = inr (n, c, is, why)
-other_cause words solver solver' before after answer not_solve (inr (inr (n, c, r, is, why))) = absurd (not_solve n c r is)
+pub other_cause : (words : List (List ℕ)) (solver solver' : SolverThen) (before after : FilesThen) (answer : Answer) → WriteNothing words → IsCause words solver solver' before after answer → IsOtherCause words before after answer
+other_cause words solver solver' before after answer nothing (inl free) = inl free.1
+other_cause words solver solver' before after answer nothing (inr (inl (n, c, is, kept, why))) = inr (n, c, is, why)
+other_cause words solver solver' before after answer nothing (inr (inr (inl (n, c, r, is, why)))) = absurd (nothing.0 n c r is)
+other_cause words solver solver' before after answer nothing (inr (inr (inr (inl (number, side, files, is, why))))) = absurd (nothing.1 number side files is)
+other_cause words solver solver' before after answer nothing (inr (inr (inr (inr (files, is, why))))) = absurd (nothing.2 files is)
 
-pub ran_other : (words : List (List ℕ)) (solver solver' : SolverThen) (before after : FilesThen) (result : ℕ) (out out' : SinkThen) → IsNotSolve words → Ran words solver solver' before after result out out' → RanOther words before after result out out'
-ran_other words solver solver' before after result out out' not_solve (answer, cause, ends) = (answer, other_cause words solver solver' before after answer not_solve cause, ends)
+pub ran_other : (words : List (List ℕ)) (solver solver' : SolverThen) (before after : FilesThen) (result : ℕ) (out out' : SinkThen) → WriteNothing words → Ran words solver solver' before after result out out' → RanOther words before after result out out'
+ran_other words solver solver' before after result out out' nothing (answer, cause, ends) = (answer, other_cause words solver solver' before after answer nothing cause, ends)
 
--- Words that are not those of `solve` leave the files.
-pub kept : (words : List (List ℕ)) (solver solver' : SolverThen) (before after : FilesThen) (result : ℕ) (out out' : SinkThen) → Ran words solver solver' before after result out out' → IsNotSolve words → IsKept before after
-kept words solver solver' before after result out out' (answer, cause, ends) not_solve =
+-- Words of no command that writes files leave the files.
+pub kept : (words : List (List ℕ)) (solver solver' : SolverThen) (before after : FilesThen) (result : ℕ) (out out' : SinkThen) → Ran words solver solver' before after result out out' → WriteNothing words → IsKept before after
+kept words solver solver' before after result out out' (answer, cause, ends) nothing =
     elim cause [
       | inl free ↦ free.0
-      | inr over ↦ elim over [ inl check ↦ check.3 | inr solve ↦ absurd (not_solve solve.0 solve.1 solve.2 solve.3) ]
+      | inr (inl check) ↦ check.3
+      | inr (inr (inl solve)) ↦ absurd (nothing.0 solve.0 solve.1 solve.2 solve.3)
+      | inr (inr (inr (inl made))) ↦ absurd (nothing.1 made.0 made.1 made.2 made.3)
+      | inr (inr (inr (inr built))) ↦ absurd (nothing.2 built.0 built.1)
     ]
 
 -- The status of an answer, or that of a line that was not written.
@@ -72,10 +80,13 @@ no_usage before after netlist certificate Want why e = absurd (omega arith)
 no_usage before after netlist certificate (ReadFault file) why e = absurd (omega arith)
 no_usage before after netlist certificate (TooLong file) why e = absurd (omega arith)
 no_usage before after netlist certificate (Refused file place kind) why e = absurd (omega arith)
+no_usage before after netlist certificate (NoGrid refusal) why e = why
 no_usage before after netlist certificate (Range quantity at number) why e = absurd (omega arith)
 no_usage before after netlist certificate (PadConflict node first second) why e = absurd (omega arith)
 no_usage before after netlist certificate (WriteFault file) why e = why
 no_usage before after netlist certificate (Unsupplied node) why e = why
+no_usage before after netlist certificate (Built built) why e = why
+no_usage before after netlist certificate Generated why e = why
 no_usage before after netlist certificate (Solved nodes resistors sweeps) why e = why
 no_usage before after netlist certificate (Certified nodes) why e = absurd (omega arith)
 no_usage before after netlist certificate (NotCertified node side found) why e = absurd (omega arith)
@@ -88,9 +99,12 @@ no_usage_solved solver solver' before after n c r (ReadFault file) why e = absur
 no_usage_solved solver solver' before after n c r (WriteFault file) why e = absurd (omega arith)
 no_usage_solved solver solver' before after n c r (TooLong file) why e = absurd (omega arith)
 no_usage_solved solver solver' before after n c r (Refused file place kind) why e = absurd (omega arith)
+no_usage_solved solver solver' before after n c r (NoGrid refusal) why e = why
 no_usage_solved solver solver' before after n c r (Range quantity at number) why e = absurd (omega arith)
 no_usage_solved solver solver' before after n c r (PadConflict node first second) why e = absurd (omega arith)
 no_usage_solved solver solver' before after n c r (Unsupplied node) why e = absurd (omega arith)
+no_usage_solved solver solver' before after n c r (Built built) why e = why
+no_usage_solved solver solver' before after n c r Generated why e = why
 no_usage_solved solver solver' before after n c r (Solved nodes resistors sweeps) why e = absurd (omega arith)
 no_usage_solved solver solver' before after n c r (Certified nodes) why e = why
 no_usage_solved solver solver' before after n c r (NotCertified node side found) why e = why
@@ -103,10 +117,10 @@ usage words solver solver' before after result out out' (answer, cause, ends) is
         | inl want ↦ absurd (other_end 2 result out out' answer ends is (λ e. let ten : status_of answer ≡ 10 = ap status_of want in absurd (omega arith)) (omega arith))
         | inr used ↦ used.1
       ]
-      | inr over ↦ elim over [
-        | inl check ↦ absurd (other_end 2 result out out' answer ends is (no_usage before after check.0 check.1 answer check.4) (omega arith))
-        | inr solve ↦ absurd (other_end 2 result out out' answer ends is (no_usage_solved solver solver' before after solve.0 solve.1 solve.2 answer solve.4) (omega arith))
-      ]
+      | inr (inl check) ↦ absurd (other_end 2 result out out' answer ends is (no_usage before after check.0 check.1 answer check.4) (omega arith))
+      | inr (inr (inl solve)) ↦ absurd (other_end 2 result out out' answer ends is (no_usage_solved solver solver' before after solve.0 solve.1 solve.2 answer solve.4) (omega arith))
+      | inr (inr (inr (inl made))) ↦ absurd (other_end 2 result out out' answer ends is (no_usage_made before after made.0 made.1 made.2 answer made.4) (omega arith))
+      | inr (inr (inr (inr built))) ↦ absurd (other_end 2 result out out' answer ends is (no_usage_built solver solver' before after built.0 answer built.2) (omega arith))
     ]
 
 -- Words of no command end with 2, or with the status of a line that was not written, or with that of want of memory.
@@ -117,7 +131,10 @@ refused words solver solver' before after result out out' (answer, cause, ends) 
         | inl want ↦ elim (ended result out out' answer ends) [ inl e ↦ inr (inr (e ∙ ap status_of want)) | inr e ↦ inr e ]
         | inr used ↦ elim (ended result out out' answer ends) [ inl e ↦ inl (e ∙ ap status_of used.0) | inr e ↦ inr e ]
       ]
-      | inr over ↦ elim over [ inl check ↦ absurd (unformed.0 check.0 check.1 check.2) | inr solve ↦ absurd (unformed.1 solve.0 solve.1 solve.2 solve.3) ]
+      | inr (inl check) ↦ absurd (unformed.0 check.0 check.1 check.2)
+      | inr (inr (inl solve)) ↦ absurd (unformed.1 solve.0 solve.1 solve.2 solve.3)
+      | inr (inr (inr (inl made))) ↦ absurd (unformed.2 made.0 made.1 made.2 made.3)
+      | inr (inr (inr (inr built))) ↦ absurd (unformed.3 built.0 built.1)
     ]
 
 -- No call on the files failed, where the answer is neither that of a file that could not be read nor that of want of memory.
@@ -127,10 +144,13 @@ none_failed before after n c Want why read want = absurd (want refl)
 none_failed before after n c (ReadFault file) why read want = absurd (read refl)
 none_failed before after n c (TooLong file) why read want = why.0
 none_failed before after n c (Refused file place kind) why read want = why.0
+none_failed before after n c (NoGrid refusal) why read want = absurd why
 none_failed before after n c (Range quantity at number) why read want = why.0
 none_failed before after n c (PadConflict node first second) why read want = why.0
 none_failed before after n c (WriteFault file) why read want = absurd why
 none_failed before after n c (Unsupplied node) why read want = absurd why
+none_failed before after n c (Built built) why read want = absurd why
+none_failed before after n c Generated why read want = absurd why
 none_failed before after n c (Solved nodes resistors sweeps) why read want = absurd why
 none_failed before after n c (Certified nodes) why read want = why.0
 none_failed before after n c (NotCertified node side found) why read want = why.0
@@ -142,9 +162,12 @@ none_failed_solved solver solver' before after n c r (ReadFault file) why read w
 none_failed_solved solver solver' before after n c r (WriteFault file) why read want = absurd (read refl)
 none_failed_solved solver solver' before after n c r (TooLong file) why read want = why.2
 none_failed_solved solver solver' before after n c r (Refused file place kind) why read want = why.1
+none_failed_solved solver solver' before after n c r (NoGrid refusal) why read want = absurd why
 none_failed_solved solver solver' before after n c r (Range quantity at number) why read want = why.1
 none_failed_solved solver solver' before after n c r (PadConflict node first second) why read want = why.1
 none_failed_solved solver solver' before after n c r (Unsupplied node) why read want = why.1
+none_failed_solved solver solver' before after n c r (Built built) why read want = absurd why
+none_failed_solved solver solver' before after n c r Generated why read want = absurd why
 none_failed_solved solver solver' before after n c r (Solved nodes resistors sweeps) why read want = why.2
 none_failed_solved solver solver' before after n c r (Certified nodes) why read want = absurd why
 none_failed_solved solver solver' before after n c r (NotCertified node side found) why read want = absurd why
@@ -160,7 +183,9 @@ calm words solver solver' before after result out out' (answer, cause, ends) rea
           | inl (keeps, inl short) ↦ absurd (want (written.0 ∙ ap status_of short))
           | inl (keeps, inr used) ↦ used.2
           | inr (inl check) ↦ none_failed before after check.0 check.1 answer check.4 (λ e. read (written.0 ∙ e)) (λ e. want (written.0 ∙ e))
-          | inr (inr solve) ↦ none_failed_solved solver solver' before after solve.0 solve.1 solve.2 answer solve.4 (λ e. read (written.0 ∙ e)) (λ e. want (written.0 ∙ e))
+          | inr (inr (inl solve)) ↦ none_failed_solved solver solver' before after solve.0 solve.1 solve.2 answer solve.4 (λ e. read (written.0 ∙ e)) (λ e. want (written.0 ∙ e))
+          | inr (inr (inr (inl made))) ↦ none_failed_made before after made.0 made.1 made.2 answer made.4 (λ e. read (written.0 ∙ e)) (λ e. want (written.0 ∙ e))
+          | inr (inr (inr (inr built))) ↦ none_failed_built solver solver' before after built.0 answer built.2 (λ e. read (written.0 ∙ e)) (λ e. want (written.0 ∙ e))
         ],
         written.2,
       )
@@ -180,9 +205,34 @@ one_netlist laws words n c n' c' a b = let e = laws.one_command words (Check n c
 pub one_certificate_file : AreLaws → (words : List (List ℕ)) (n c n' c' : List ℕ) → IsCheck words n c → IsCheck words n' c' → c ≡ c'
 one_certificate_file laws words n c n' c' a b = let e = laws.one_command words (Check n c) (Check n' c') a b in cc
 
--- The words of `check` are not those of `solve`.
-pub not_solve : AreLaws → (words : List (List ℕ)) (n c : List ℕ) → IsCheck words n c → IsNotSolve words
-not_solve laws words n c is n' c' r is' = let e = laws.one_command words (Check n c) (Solve n' c' r) is is' in cc
+-- The words of `check` are those of no command that writes files.
+pub check_writes_nothing : AreLaws → (words : List (List ℕ)) (n c : List ℕ) → IsCheck words n c → WriteNothing words
+check_writes_nothing laws words n c is = (
+  λ n' c' r is'. let e = laws.one_command words (Check n c) (Solve n' c' r) is is' in cc,
+  λ number side files is'. let e = laws.one_command words (Check n c) (Generate number side files.lef files.cells files.def files.pdn files.bias) is is' in cc,
+  λ f is'. let e = laws.one_command words (Check n c) (Build f.lef f.cells f.def f.pdn f.bias f.out_def f.netlist f.certificate f.report) is is' in cc,
+)
+
+-- The words of `generate` name one number, one side and five files alone.
+abbrev pub files_of : (lef cells design script bias : List ℕ) → DesignFiles
+files_of lef cells design script bias = record { lef = lef; cells = cells; def = design; pdn = script; bias = bias }
+
+pub same_generate : AreLaws → (words : List (List ℕ)) (n s : ℕ) (f : DesignFiles) (n' s' : ℕ) (f' : DesignFiles) → IsGenerate words n s f → IsGenerate words n' s' f' → (P : ℕ → ℕ → DesignFiles → Type 0) → P n s f → P n' s' f'
+same_generate laws words n s f n' s' f' a b P p =
+    let e = laws.one_command words (Generate n s f.lef f.cells f.def f.pdn f.bias) (Generate n' s' f'.lef f'.cells f'.def f'.pdn f'.bias) a b in
+    let number : n ≡ n' = cc in
+    let side : s ≡ s' = cc in
+    let lef : f.lef ≡ f'.lef = cc in
+    let cells : f.cells ≡ f'.cells = cc in
+    let design : f.def ≡ f'.def = cc in
+    let script : f.pdn ≡ f'.pdn = cc in
+    let bias : f.bias ≡ f'.bias = cc in
+    subst (λ x. P n' s' (files_of f'.lef f'.cells f'.def f'.pdn x)) bias
+    (subst (λ x. P n' s' (files_of f'.lef f'.cells f'.def x f.bias)) script
+    (subst (λ x. P n' s' (files_of f'.lef f'.cells x f.pdn f.bias)) design
+    (subst (λ x. P n' s' (files_of f'.lef x f.def f.pdn f.bias)) cells
+    (subst (λ x. P n' s' (files_of x f.cells f.def f.pdn f.bias)) lef
+    (subst (λ x. P n' x f) side (subst (λ x. P x s f) number p))))))
 
 -- What a file is said to have, where it is known what the files hold.
 pub of_held : (P : Holdings → Type 0) (known : Option Holdings) (held : Holdings) → known ≡ Some held → IfSome known P → P held
@@ -210,10 +260,13 @@ zero_over words before after n c Want is why e = absurd (omega arith)
 zero_over words before after n c (ReadFault file) is why e = absurd (omega arith)
 zero_over words before after n c (TooLong file) is why e = absurd (omega arith)
 zero_over words before after n c (Refused file place kind) is why e = absurd (omega arith)
+zero_over words before after n c (NoGrid refusal) is why e = absurd why
 zero_over words before after n c (Range quantity at number) is why e = absurd (omega arith)
 zero_over words before after n c (PadConflict node first second) is why e = absurd (omega arith)
 zero_over words before after n c (WriteFault file) is why e = absurd why
 zero_over words before after n c (Unsupplied node) is why e = absurd why
+zero_over words before after n c (Built built) is why e = absurd why
+zero_over words before after n c Generated is why e = absurd why
 zero_over words before after n c (Solved nodes resistors sweeps) is why e = absurd why
 zero_over words before after n c (Certified nodes) is why e = record { n = n; c = c; is = is; nodes = nodes; judged = why }
 zero_over words before after n c (NotCertified node side found) is why e = absurd (omega arith)
@@ -318,10 +371,13 @@ module _ (laws : AreLaws) (none : NoFailing) (words : List (List ℕ)) (before a
             absurd (omega (arith, subst (λ f. longest_text < length (bytes_in held f)) same long, whole.certificate_fits))
       ]
   judged_over n c (Refused file place kind) is why = judged_texts n c (Refused file place kind) is (λ e. cc) why
+  judged_over n c (NoGrid refusal) is why = absurd why
   judged_over n c (Range quantity at number) is why = judged_texts n c (Range quantity at number) is (λ e. cc) why
   judged_over n c (PadConflict node first second) is why = judged_texts n c (PadConflict node first second) is (λ e. cc) why
   judged_over n c (WriteFault file) is why = absurd why
   judged_over n c (Unsupplied node) is why = absurd why
+  judged_over n c (Built built) is why = absurd why
+  judged_over n c Generated is why = absurd why
   judged_over n c (Solved nodes resistors sweeps) is why = absurd why
   judged_over n c (Certified nodes) is why = judged_texts n c (Certified nodes) is (λ e. cc) why
   judged_over n c (NotCertified node side found) is why = judged_texts n c (NotCertified node side found) is (λ e. cc) why

@@ -6,12 +6,16 @@ use Rattle.outside.specs.Counts.{FaultCounts, Rose, last_count}
 use Rattle.outside.specs.Files.{Holdings, bytes_in}
 use Rattle.outside.specs.Whole.{longest_text}
 use Rattle.answers.specs.declared.answer.Answer.{Answer}
-use Rattle.answers.specs.declared.answer.Answer.TheVariants.{Usage, Want, ReadFault, WriteFault, TooLong, Refused, Range, PadConflict, Unsupplied, Solved, Certified, NotCertified}
+use Rattle.answers.specs.declared.answer.Answer.TheVariants.{Usage, Want, ReadFault, WriteFault, TooLong, Refused, NoGrid, Range, PadConflict, Unsupplied, Built, Generated, Solved, Certified, NotCertified}
 use Rattle.judging.specs.Judging.{Judges}
-use Rattle.pdn_signoff.specs.Words.{IsCheck, IsUsage}
+use Rattle.pdn_signoff.specs.declared.design_files.DesignFiles.{DesignFiles}
+use Rattle.pdn_signoff.specs.Words.{IsCheck, IsGenerate, IsNotSolve, IsNotBuild, IsUsage}
 use Rattle.pdn_signoff.specs.Check.{FilesThen, NoneFailed, JudgesFiles, Answers}
-use Rattle.pdn_signoff.specs.Command.{CanRise}
-use Rattle.pdn_signoff.proofs.Causes.{IsOtherCause, AreLaws, of_held, one_netlist, one_certificate_file}
+use Rattle.pdn_signoff.specs.Solve.{SolverThen, WriteFailed}
+use Rattle.pdn_signoff.specs.Generate.{Generates}
+use Rattle.pdn_signoff.specs.Command.{IsCause, CanRise}
+use Rattle.pdn_signoff.proofs.Causes.{AreLaws, of_held, one_netlist, one_certificate_file, same_generate, check_writes_nothing}
+use Rattle.pdn_signoff.proofs.Generating.{IsMadeStage, made_stage, failed_write}
 
 module _ (file_n file_c n c : List ℕ) where
   -- The answers over two files that are held, each with its cause.
@@ -115,17 +119,46 @@ stage_of before after held n c (TooLong file) known some why =
       | inr second ↦ inr (why.0, inr (inl (ap TooLong second.0, of_held (λ h. length (bytes_in h n) ≤ longest_text) before.known held known second.1, of_held (λ h. longest_text < length (bytes_in h c)) before.known held known second.2)))
     ]
 stage_of before after held n c (Refused file place kind) known some why = judged_stage before after held n c (Refused file place kind) known some why
+stage_of before after held n c (NoGrid refusal) known some why = absurd why
 stage_of before after held n c (Range quantity at number) known some why = judged_stage before after held n c (Range quantity at number) known some why
 stage_of before after held n c (PadConflict node first second) known some why = judged_stage before after held n c (PadConflict node first second) known some why
 stage_of before after held n c (WriteFault file) known some why = absurd why
 stage_of before after held n c (Unsupplied node) known some why = absurd why
+stage_of before after held n c (Built built) known some why = absurd why
+stage_of before after held n c Generated known some why = absurd why
 stage_of before after held n c (Solved nodes resistors sweeps) known some why = absurd why
 stage_of before after held n c (Certified nodes) known some why = judged_stage before after held n c (Certified nodes) known some why
 stage_of before after held n c (NotCertified node side found) known some why = judged_stage before after held n c (NotCertified node side found) known some why
 
+-- ---- the five files of a design
+module _ (before after : FilesThen) (held : Holdings) (number side : ℕ) (files : DesignFiles) (known : before.known ≡ Some held) (can : CanRise after.counts) where
+  -- The writes of one file alone failed.
+  one_failed : (f g : List ℕ) (same : Bool) → bytes_eq f g ≡ same → WriteFailed before after f → WriteFailed before after g → f ≡ g
+  one_failed f g true is x y = (bytes_eq-Decides f g).0 is
+  one_failed f g false is x y =
+      let rose = of_held (λ _. Rose (before.counts.writes f) (after.counts.writes f)) before.known held known x.failed_write in
+      absurd (rose_or_stays _ _ rose (y.only.writes f (λ e. let clash = sym is ∙ (bytes_eq-Decides f g).1 e in cc)) (can.writes f))
+
+  failed_or_calm : (f : List ℕ) → WriteFailed before after f → NoneFailed before after → ⊥
+  failed_or_calm f x calm = rose_or_stays _ _ x.fault (ap (λ (c : FaultCounts). c.faults) calm) can.faults
+
+  one_made_stage : (a b : Answer) → a ≢ Want → b ≢ Want → IsMadeStage before after number side files a → IsMadeStage before after number side files b → a ≡ b
+  one_made_stage a b some_a some_b (inl want) y = absurd (some_a want)
+  one_made_stage a b some_a some_b (inr x) (inl want) = absurd (some_b want)
+  one_made_stage a b some_a some_b (inr (inl (f, told, x))) (inr (inl (g, told', y))) =
+      told ∙ ap WriteFault (one_failed f g (bytes_eq f g) refl (failed_write before after number side files f x) (failed_write before after number side files g y)) ∙ sym told'
+  one_made_stage a b some_a some_b (inr (inl (f, told, x))) (inr (inr (told', calm, holds))) = absurd (failed_or_calm f (failed_write before after number side files f x) calm)
+  one_made_stage a b some_a some_b (inr (inr (told, calm, holds))) (inr (inl (g, told', y))) = absurd (failed_or_calm g (failed_write before after number side files g y) calm)
+  one_made_stage a b some_a some_b (inr (inr (told, calm, holds))) (inr (inr (told', calm', holds'))) = told ∙ sym told'
+
+  one_made : (a b : Answer) → a ≢ Want → b ≢ Want → Generates before after number side files a → Generates before after number side files b → a ≡ b
+  one_made a b some_a some_b x y = one_made_stage a b some_a some_b (made_stage before after number side files a x) (made_stage before after number side files b y)
+
 -- Of the answers other than want of memory, one alone has its cause.
-pub one_answer : AreLaws → (words : List (List ℕ)) (before after : FilesThen) (held : Holdings) (a b : Answer) → before.known ≡ Some held → CanRise after.counts → IsOtherCause words before after a → IsOtherCause words before after b → a ≢ Want → b ≢ Want → a ≡ b
-one_answer laws words before after held a b known can x y some_a some_b = one_of_two Used Over (λ p q e f. e.0 ∙ sym f.0) one_over (λ p q e f. e.1.0 f.1.0 f.1.1 f.1.2) a b (settled a some_a x) (settled b some_b y)
+pub one_answer : AreLaws → (words : List (List ℕ)) (solver solver' : SolverThen) (before after : FilesThen) (held : Holdings) (a b : Answer) → before.known ≡ Some held → CanRise after.counts → IsNotSolve words → IsNotBuild words
+    → IsCause words solver solver' before after a → IsCause words solver solver' before after b → a ≢ Want → b ≢ Want → a ≡ b
+one_answer laws words solver solver' before after held a b known can not_solve not_build x y some_a some_b =
+    one_of_two Used (λ p. Over p ⊎ Made p) (λ p q e f. e.0 ∙ sym f.0) (one_of_two Over Made one_over one_of_made over_or_made) used_or_not a b (settled a some_a x) (settled b some_b y)
   where
     Used : Answer → Type 0
     Used p = (p ≡ Usage) × IsUsage words
@@ -133,8 +166,24 @@ one_answer laws words before after held a b known can x y some_a some_b = one_of
     Over : Answer → Type 0
     Over p = (p ≢ Want) × ((netlist : List ℕ) × (certificate : List ℕ) × IsCheck words netlist certificate × Answers before after netlist certificate p)
 
-    settled : (p : Answer) → p ≢ Want → IsOtherCause words before after p → Used p ⊎ Over p
-    settled p some cause = elim cause [ inl free ↦ elim free [ inl want ↦ absurd (some want) | inr used ↦ inl (used.0, used.1) ] | inr over ↦ inr (some, over) ]
+    Made : Answer → Type 0
+    Made p = (p ≢ Want) × ((number : ℕ) × (side : ℕ) × (files : DesignFiles) × IsGenerate words number side files × Generates before after number side files p)
+
+    settled : (p : Answer) → p ≢ Want → IsCause words solver solver' before after p → Used p ⊎ (Over p ⊎ Made p)
+    settled p some cause = elim cause [
+      | inl (kept, inl want) ↦ absurd (some want)
+      | inl (kept, inr used) ↦ inl (used.0, used.1)
+      | inr (inl (n, c, is, kept, why)) ↦ inr (inl (some, (n, c, is, why)))
+      | inr (inr (inl (n, c, r, is, why))) ↦ absurd (not_solve n c r is)
+      | inr (inr (inr (inl made))) ↦ inr (inr (some, made))
+      | inr (inr (inr (inr built))) ↦ absurd (not_build built.0 built.1)
+    ]
+
+    used_or_not : (p q : Answer) → Used p → (Over q ⊎ Made q) → ⊥
+    used_or_not p q e f = elim f [ inl over ↦ e.1.0 over.1.0 over.1.1 over.1.2 | inr made ↦ e.1.2 made.1.0 made.1.1 made.1.2 made.1.3 ]
+
+    over_or_made : (p q : Answer) → Over p → Made q → ⊥
+    over_or_made p q e f = (check_writes_nothing laws words e.1.0 e.1.1 e.1.2).1 f.1.0 f.1.1 f.1.2 f.1.3
 
     one_over : (p q : Answer) → Over p → Over q → p ≡ q
     one_over p q e f =
@@ -142,3 +191,8 @@ one_answer laws words before after held a b known can x y some_a some_b = one_of
         let c = one_certificate_file laws words f.1.0 f.1.1 e.1.0 e.1.1 f.1.2 e.1.2 in
         let g : Answers before after e.1.0 e.1.1 q = subst (λ x. Answers before after e.1.0 x q) c (subst (λ x. Answers before after x f.1.1 q) n f.1.3) in
         one_of_all before after held e.1.0 e.1.1 laws can p q (stage_of before after held e.1.0 e.1.1 p known e.0 e.1.3) (stage_of before after held e.1.0 e.1.1 q known f.0 g)
+
+    one_of_made : (p q : Answer) → Made p → Made q → p ≡ q
+    one_of_made p q e f =
+        let g = same_generate laws words f.1.0 f.1.1 f.1.2 e.1.0 e.1.1 e.1.2 f.1.3 e.1.3 (λ n s fs. Generates before after n s fs q) f.1.4 in
+        one_made before after held e.1.0 e.1.1 e.1.2 known can p q e.0 f.0 e.1.4 g

@@ -1,7 +1,12 @@
 mod Alike
+mod Building
 mod Causes
+mod Completing
 mod Exclude
+mod Generating
+mod Making
 mod Signing
 mod Solving
+mod Stopping
 mod Unread
 mod Writing

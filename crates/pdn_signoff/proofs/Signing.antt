@@ -5,9 +5,9 @@ use Rattle.outside.specs.Files.{Holdings, bytes_in}
 use Rattle.outside.specs.Known.{WhereKnown}
 use Rattle.outside.specs.Whole.{longest_text}
 use Rattle.answers.specs.declared.answer.Answer.{Answer}
-use Rattle.answers.specs.declared.answer.Answer.TheVariants.{Usage, Want, ReadFault, WriteFault, TooLong, Refused, Range, PadConflict, Unsupplied, Solved, Certified, NotCertified}
+use Rattle.answers.specs.declared.answer.Answer.TheVariants.{Usage, Want, ReadFault, WriteFault, TooLong, Refused, NoGrid, Range, PadConflict, Unsupplied, Built, Generated, Solved, Certified, NotCertified}
 use Rattle.answers.specs.Answer.{status_of}
-use Rattle.command_words.specs.declared.command.Command.TheVariants.{Solve}
+use Rattle.command_words.specs.declared.command.Command.TheVariants.{Build, Solve, Generate}
 use Rattle.certificate_file.specs.Format.{ReadsCertificate}
 use Rattle.judging.specs.Texts.{HasNetwork}
 use Rattle.short_merge.specs.declared.merged.Merged.{Merged}
@@ -19,7 +19,7 @@ use Rattle.pdn_signoff.specs.Words.{IsSolve}
 use Rattle.pdn_signoff.specs.Check.{FilesThen}
 use Rattle.pdn_signoff.specs.Solve.{SolverThen, HoldsBoth, SignsFile, RefusesFile, Solves}
 use Rattle.pdn_signoff.specs.Command.{SinkThen, IsCause, IsSolveOf, LeavesSigned, LeavesAccepted, ChangesOnly}
-use Rattle.pdn_signoff.proofs.Causes.{Ran, AreLaws, not_solve, of_held, unhindered, status_zero}
+use Rattle.pdn_signoff.proofs.Causes.{Ran, AreLaws, check_writes_nothing, of_held, unhindered, status_zero}
 use Rattle.pdn_signoff.proofs.Solving.{outputs_alone, want_solved}
 
 -- The laws of netlists that are signed off, as they are handed in.
@@ -46,12 +46,16 @@ pub solve_cause : AreLaws → (words : List (List ℕ)) (solver solver' : Solver
 solve_cause laws words solver solver' before after n c r answer is (inl (kept, inl want)) = record { why = inl (want, kept) }
 solve_cause laws words solver solver' before after n c r answer is (inl (kept, inr used)) = absurd (used.1.1 n c r is)
 solve_cause laws words solver solver' before after n c r answer is (inr (inl (n', c', is', kept, rest))) =
-    absurd (not_solve laws words n' c' is' n c r is)
-solve_cause laws words solver solver' before after n c r answer is (inr (inr (n', c', r', is', why))) =
+    absurd ((check_writes_nothing laws words n' c' is').0 n c r is)
+solve_cause laws words solver solver' before after n c r answer is (inr (inr (inl (n', c', r', is', why)))) =
     let same_n = one_netlist_solved laws words n' c' r' n c r is' is in
     let same_c = one_bounds_file laws words n' c' r' n c r is' is in
     let same_r = one_report laws words n' c' r' n c r is' is in
     record { why = inr (subst (λ x. Solves solver solver' before after n c x answer) same_r (subst (λ x. Solves solver solver' before after n x r' answer) same_c (subst (λ x. Solves solver solver' before after x c' r' answer) same_n why))) }
+solve_cause laws words solver solver' before after n c r answer is (inr (inr (inr (inl (number, side, files, is', why))))) =
+    let clash = laws.one_command words (Solve n c r) (Generate number side files.lef files.cells files.def files.pdn files.bias) is is' in cc
+solve_cause laws words solver solver' before after n c r answer is (inr (inr (inr (inr (f, is', why))))) =
+    let clash = laws.one_command words (Solve n c r) (Build f.lef f.cells f.def f.pdn f.bias f.out_def f.netlist f.certificate f.report) is is' in cc
 
 -- No file changes but the two outputs.
 pub others : AreLaws → (words : List (List ℕ)) (solver solver' : SolverThen) (before after : FilesThen) (result : ℕ) (out out' : SinkThen) → Ran words solver solver' before after result out out' → (n c r : List ℕ) → IsSolve words n c r → WhereKnown (ChangesOnly c r) before.known after.known
@@ -76,9 +80,12 @@ solved_over solver solver' before after n c r (ReadFault file) why e = absurd (o
 solved_over solver solver' before after n c r (WriteFault file) why e = absurd (omega arith)
 solved_over solver solver' before after n c r (TooLong file) why e = absurd (omega arith)
 solved_over solver solver' before after n c r (Refused file place kind) why e = absurd (omega arith)
+solved_over solver solver' before after n c r (NoGrid refusal) why e = absurd why
 solved_over solver solver' before after n c r (Range quantity at number) why e = absurd (omega arith)
 solved_over solver solver' before after n c r (PadConflict node first second) why e = absurd (omega arith)
 solved_over solver solver' before after n c r (Unsupplied node) why e = absurd (omega arith)
+solved_over solver solver' before after n c r (Built built) why e = absurd why
+solved_over solver solver' before after n c r Generated why e = absurd why
 solved_over solver solver' before after n c r (Solved nodes resistors sweeps) (signed, file, calm, numbers, asked, holds) e = record { signed = signed; file = file; asked = asked; holds = holds }
 solved_over solver solver' before after n c r (Certified nodes) why e = absurd why
 solved_over solver solver' before after n c r (NotCertified node side found) why e = absurd why
@@ -168,9 +175,12 @@ module _ (laws : AreSolvingLaws) (solver solver' : SolverThen) (before after : F
       let long : longest_text < length (bytes_in held n) = of_held (λ h. longest_text < length (bytes_in h n)) before.known held told why.3 in
       absurd (omega (arith, long, fits))
   solved_so (Refused file place kind) why = by_refusal (Refused file place kind) (λ e. cc) why
+  solved_so (NoGrid refusal) why = absurd why
   solved_so (Range quantity at number) why = by_refusal (Range quantity at number) (λ e. cc) why
   solved_so (PadConflict node first second) why = by_refusal (PadConflict node first second) (λ e. cc) why
   solved_so (Unsupplied node) why = by_refusal (Unsupplied node) (λ e. cc) why
+  solved_so (Built built) why = absurd why
+  solved_so Generated why = absurd why
   solved_so (Solved nodes resistors sweeps) (signed, file, none, numbers, asked, holds) =
       let same = (laws.network file.text file.named named file.merged merged file.signs.gives.network (read_network file.text file.text_is)).1 in
       inl (refl, subst (λ (m : Merged). EachIsSupplied m.net) same file.signs.supplied)

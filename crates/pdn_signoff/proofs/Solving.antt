@@ -8,7 +8,7 @@ use Rattle.outside.specs.Whole.{longest_text}
 use Rattle.outside.specs.declared.whole.ReadError.{ReadError}
 use Rattle.outside.specs.declared.whole.ReadError.TheVariants as reading
 use Rattle.answers.specs.declared.answer.Answer.{Answer}
-use Rattle.answers.specs.declared.answer.Answer.TheVariants.{Usage, Want, ReadFault, WriteFault, TooLong, Refused, Range, PadConflict, Unsupplied, Solved, Certified, NotCertified}
+use Rattle.answers.specs.declared.answer.Answer.TheVariants.{Usage, Want, ReadFault, WriteFault, TooLong, Refused, NoGrid, Range, PadConflict, Unsupplied, Built, Generated, Solved, Certified, NotCertified}
 use Rattle.solving.specs.declared.signed.Signed.{Signed}
 use Rattle.solving.specs.Refusal.{IsUnsigned, IsToUnsigned}
 use Rattle.pdn_signoff.specs.Check.{FilesThen, NoneFailed, IsTextOf}
@@ -16,6 +16,8 @@ use Rattle.pdn_signoff.specs.Solve.{SolverThen, IsKept, HoldsBoth, HoldsFirstOfR
 use Rattle.pdn_signoff.specs.Command.{IsCause, ChangesOnly}
 use Rattle.pdn_signoff.specs.inside.Check.{unread_answer}
 use Rattle.pdn_signoff.specs.inside.Solve.{Writes}
+use Rattle.pdn_signoff.proofs.Building.{want_built}
+use Rattle.pdn_signoff.proofs.Generating.{want_made}
 
 module _ (solver solver' : SolverThen) (before after : FilesThen) (n c r : List ℕ) where
   -- The netlist was not read.
@@ -38,9 +40,12 @@ module _ (solver solver' : SolverThen) (before after : FilesThen) (n c r : List 
   file_refused kept calm text is fits (WriteFault file) sort refuses = absurd sort
   file_refused kept calm text is fits (TooLong file) sort refuses = absurd sort
   file_refused kept calm text is fits (Refused file place kind) sort refuses = (kept, calm, (text, is, fits, refuses))
+  file_refused kept calm text is fits (NoGrid refusal) sort refuses = sort
   file_refused kept calm text is fits (Range quantity at number) sort refuses = (kept, calm, (text, is, fits, refuses))
   file_refused kept calm text is fits (PadConflict node first second) sort refuses = (kept, calm, (text, is, fits, refuses))
   file_refused kept calm text is fits (Unsupplied node) sort refuses = (kept, calm, (text, is, fits, refuses))
+  file_refused kept calm text is fits (Built built) sort refuses = sort
+  file_refused kept calm text is fits Generated sort refuses = sort
   file_refused kept calm text is fits (Solved nodes resistors sweeps) sort refuses = absurd sort
   file_refused kept calm text is fits (Certified nodes) sort refuses = sort
   file_refused kept calm text is fits (NotCertified node side found) sort refuses = sort
@@ -69,9 +74,12 @@ module _ (solver solver' : SolverThen) (before after : FilesThen) (n c r : List 
   want_solved (WriteFault file) (signed, file_is, either) = inr (signed, file_is, elim either [ inl x ↦ inl x.2 | inr y ↦ inr y.2 ])
   want_solved (TooLong file) why = inl why.1
   want_solved (Refused file place kind) why = inl why.0
+  want_solved (NoGrid refusal) why = absurd why
   want_solved (Range quantity at number) why = inl why.0
   want_solved (PadConflict node first second) why = inl why.0
   want_solved (Unsupplied node) why = inl why.0
+  want_solved (Built built) why = absurd why
+  want_solved Generated why = absurd why
   want_solved (Solved nodes resistors sweeps) (signed, file_is, calm, numbers, asked, holds) =
       inr (signed, file_is, inr (whole_known signed.certificate signed.report before.known after.known holds))
   want_solved (Certified nodes) why = absurd why
@@ -116,4 +124,6 @@ same_files mid before known counts =
 pub want_too : (words : List (List ℕ)) (solver solver' : SolverThen) (before after : FilesThen) (answer : Answer) → IsCause words solver solver' before after answer → IsCause words solver solver' before after Want
 want_too words solver solver' before after answer (inl free) = inl (free.0, inl refl)
 want_too words solver solver' before after answer (inr (inl check)) = inl (check.3, inl refl)
-want_too words solver solver' before after answer (inr (inr (n, c, r, is, why))) = inr (inr (n, c, r, is, want_solved solver solver' before after n c r answer why))
+want_too words solver solver' before after answer (inr (inr (inl (n, c, r, is, why)))) = inr (inr (inl (n, c, r, is, want_solved solver solver' before after n c r answer why)))
+want_too words solver solver' before after answer (inr (inr (inr (inl (number, side, files, is, why))))) = inr (inr (inr (inl (number, side, files, is, want_made before after number side files answer why))))
+want_too words solver solver' before after answer (inr (inr (inr (inr (f, is, why))))) = inr (inr (inr (inr (f, is, want_built solver solver' before after f answer why))))

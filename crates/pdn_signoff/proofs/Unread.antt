@@ -6,7 +6,7 @@ use Rattle.outside.specs.Whole.{longest_text}
 use Rattle.outside.specs.declared.whole.ReadError.{ReadError}
 use Rattle.outside.specs.declared.whole.ReadError.TheVariants as reading
 use Rattle.answers.specs.declared.answer.Answer.{Answer}
-use Rattle.answers.specs.declared.answer.Answer.TheVariants.{Usage, Want, ReadFault, WriteFault, TooLong, Refused, Range, PadConflict, Unsupplied, Solved, Certified, NotCertified}
+use Rattle.answers.specs.declared.answer.Answer.TheVariants.{Usage, Want, ReadFault, WriteFault, TooLong, Refused, NoGrid, Range, PadConflict, Unsupplied, Built, Generated, Solved, Certified, NotCertified}
 use Rattle.judging.specs.Judging.{Judges}
 use Rattle.judging.specs.Stage.{IsToTexts}
 use Rattle.pdn_signoff.specs.Check.{FilesThen, NoneFailed, AreTexts, Fits, Answers}
@@ -53,9 +53,12 @@ judged_files sort before after n c nt ct (ReadFault file) calm texts judged = ab
 judged_files sort before after n c nt ct (WriteFault file) calm texts judged = sort n c nt ct (WriteFault file) judged
 judged_files sort before after n c nt ct (TooLong file) calm texts judged = absurd (sort n c nt ct (TooLong file) judged)
 judged_files sort before after n c nt ct (Refused file place kind) calm texts judged = (calm, (nt, ct, texts, judged))
+judged_files sort before after n c nt ct (NoGrid refusal) calm texts judged = sort n c nt ct (NoGrid refusal) judged
 judged_files sort before after n c nt ct (Range quantity at number) calm texts judged = (calm, (nt, ct, texts, judged))
 judged_files sort before after n c nt ct (PadConflict node first second) calm texts judged = (calm, (nt, ct, texts, judged))
 judged_files sort before after n c nt ct (Unsupplied node) calm texts judged = sort n c nt ct (Unsupplied node) judged
+judged_files sort before after n c nt ct (Built built) calm texts judged = sort n c nt ct (Built built) judged
+judged_files sort before after n c nt ct Generated calm texts judged = sort n c nt ct Generated judged
 judged_files sort before after n c nt ct (Solved nodes resistors sweeps) calm texts judged = sort n c nt ct (Solved nodes resistors sweeps) judged
 judged_files sort before after n c nt ct (Certified nodes) calm texts judged = (calm, (nt, ct, texts, judged))
 judged_files sort before after n c nt ct (NotCertified node side found) calm texts judged = (calm, (nt, ct, texts, judged))

@@ -4,7 +4,7 @@ use Rattle.outside.specs.Counts.{FaultCounts, Rose}
 use Rattle.outside.specs.Files.{Holdings, bytes_in}
 use Rattle.outside.specs.Whole.{longest_text}
 use Rattle.answers.specs.declared.answer.Answer.{Answer}
-use Rattle.answers.specs.declared.answer.Answer.TheVariants.{Usage, Want, ReadFault, WriteFault, TooLong, Refused, Range, PadConflict, Unsupplied, Solved, Certified, NotCertified}
+use Rattle.answers.specs.declared.answer.Answer.TheVariants.{Usage, Want, ReadFault, WriteFault, TooLong, Refused, NoGrid, Range, PadConflict, Unsupplied, Built, Generated, Solved, Certified, NotCertified}
 use Rattle.judging.specs.Judging.{Judges}
 
 -- What is known of files at a moment: what they hold, if that is known, and the counts of the calls that failed.
@@ -68,6 +68,7 @@ Answers before after netlist certificate (TooLong file) =
     ⊎ ((file ≡ certificate) × Fits before.known netlist × IsTooLong before.known certificate))
 Answers before after netlist certificate (Refused file place kind) =
     JudgesFiles before after netlist certificate (Refused file place kind)
+Answers before after netlist certificate (NoGrid refusal) = ⊥
 Answers before after netlist certificate (Range quantity at number) =
     JudgesFiles before after netlist certificate (Range quantity at number)
 Answers before after netlist certificate (PadConflict node first second) =
@@ -80,4 +81,6 @@ Answers before after netlist certificate Want = Unit {0}
 Answers before after netlist certificate Usage = ⊥
 Answers before after netlist certificate (WriteFault file) = ⊥
 Answers before after netlist certificate (Unsupplied node) = ⊥
+Answers before after netlist certificate (Built built) = ⊥
+Answers before after netlist certificate Generated = ⊥
 Answers before after netlist certificate (Solved nodes resistors sweeps) = ⊥

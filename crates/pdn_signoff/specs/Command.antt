@@ -1,5 +1,5 @@
 -- What a run of the program comes to, and how it ends.
-use Rattle.std.specs.Prelude.{◌≡◌, ◌≢◌, ◌≤◌, ◌⊎◌, ℕ, ℤ, List, Option, length}
+use Rattle.std.specs.Prelude.{◌≡◌, ◌≢◌, ◌≤◌, ◌⊎◌, ℕ, ℤ, List, Contains, Option, length}
 use Rattle.outside.specs.Counts.{FaultCounts, Rose, last_count}
 use Rattle.outside.specs.Files.{Holdings, bytes_in}
 use Rattle.outside.specs.Known.{WhereKnown}
@@ -18,7 +18,11 @@ use Rattle.solving.specs.Signed.{Signs, LieWithinReport}
 use Rattle.spice_grid.specs.declared.named.Named.{Named}
 use Rattle.pdn_signoff.specs.Check.{FilesThen, NoneFailed, Answers}
 use Rattle.pdn_signoff.specs.Solve.{SolverThen, IsKept, HoldsBoth, Solves}
-use Rattle.pdn_signoff.specs.Words.{IsCheck, IsSolve, IsUsage}
+use Rattle.pdn_signoff.specs.Generate.{Generates}
+use Rattle.pdn_signoff.specs.Build.{Builds}
+use Rattle.pdn_signoff.specs.Words.{IsCheck, IsSolve, IsGenerate, IsBuild, IsUsage}
+use Rattle.pdn_signoff.specs.declared.build_files.BuildFiles.{BuildFiles}
+use Rattle.pdn_signoff.specs.declared.design_files.DesignFiles.{DesignFiles}
 
 -- What is known of a sink at a moment: the bytes written, if they are known, and the count of the calls that failed.
 pub record SinkThen : Type 0 where
@@ -26,14 +30,17 @@ pub record SinkThen : Type 0 where
   pub faults : ℕ
 
 -- The cause of an answer, over the words and what is known of the solver and the files before and after the run. The words
--- come first. Where they are not those of `solve`, what the files hold stays.
+-- come first. Where they are those of no command that writes files, what the files hold stays.
 abbrev pub IsCause : List (List ℕ) → SolverThen → SolverThen → FilesThen → FilesThen → Answer → Type 0
 IsCause words solver solver' before after answer =
     (IsKept before after × ((answer ≡ Want) ⊎ ((answer ≡ Usage) × IsUsage words × NoneFailed before after)))
     ⊎ (((netlist : List ℕ) × (certificate : List ℕ)
     × IsCheck words netlist certificate × IsKept before after × Answers before after netlist certificate answer)
-    ⊎ ((netlist : List ℕ) × (certificate : List ℕ) × (report : List ℕ)
-    × IsSolve words netlist certificate report × Solves solver solver' before after netlist certificate report answer))
+    ⊎ (((netlist : List ℕ) × (certificate : List ℕ) × (report : List ℕ)
+    × IsSolve words netlist certificate report × Solves solver solver' before after netlist certificate report answer)
+    ⊎ (((number : ℕ) × (side : ℕ) × (files : DesignFiles)
+    × IsGenerate words number side files × Generates before after number side files answer)
+    ⊎ ((files : BuildFiles) × IsBuild words files × Builds solver solver' before after files answer))))
 
 -- None of the counts stands at its last value, where a count that stays counts as risen.
 pub record CanRise (counts : FaultCounts) : Type 0 where
@@ -104,6 +111,10 @@ LeavesAccepted netlist certificate old new =
 -- No file but these two changes.
 abbrev pub ChangesOnly : (one other : List ℕ) → Holdings → Holdings → Type 0
 ChangesOnly one other old new = (file : List ℕ) → file ≢ one → file ≢ other → new file ≡ old file
+
+-- No file changes but those of these names.
+abbrev pub ChangesAmong : List (List ℕ) → Holdings → Holdings → Type 0
+ChangesAmong names old new = (file : List ℕ) → ¬ Contains names file → new file ≡ old file
 
 -- Two answers are one, but that a network may be solved in another number of sweeps.
 abbrev pub AreAlike : Answer → Answer → Type 0

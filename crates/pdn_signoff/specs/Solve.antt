@@ -5,7 +5,7 @@ use Rattle.outside.specs.Files.{Holdings, HoldsAll, HoldsFirst}
 use Rattle.outside.specs.Known.{WhereKnown}
 use Rattle.outside.specs.Whole.{longest_text}
 use Rattle.answers.specs.declared.answer.Answer.{Answer}
-use Rattle.answers.specs.declared.answer.Answer.TheVariants.{Usage, Want, ReadFault, WriteFault, TooLong, Refused, Range, PadConflict, Unsupplied, Solved, Certified, NotCertified}
+use Rattle.answers.specs.declared.answer.Answer.TheVariants.{Usage, Want, ReadFault, WriteFault, TooLong, Refused, NoGrid, Range, PadConflict, Unsupplied, Built, Generated, Solved, Certified, NotCertified}
 use Rattle.bound_check.specs.Certified.{Certificate}
 use Rattle.short_merge.specs.declared.merged.Merged.{Merged}
 use Rattle.solving.specs.declared.signed.Signed.{Signed}
@@ -90,12 +90,15 @@ Solves solver solver' before after netlist certificate report (TooLong file) =
     (file ≡ netlist) × IsKept before after × NoneFailed before after × IsTooLong before.known netlist
 Solves solver solver' before after netlist certificate report (Refused file place kind) =
     RefusesFile before after netlist (Refused file place kind)
+Solves solver solver' before after netlist certificate report (NoGrid refusal) = ⊥
 Solves solver solver' before after netlist certificate report (Range quantity at number) =
     RefusesFile before after netlist (Range quantity at number)
 Solves solver solver' before after netlist certificate report (PadConflict node first second) =
     RefusesFile before after netlist (PadConflict node first second)
 Solves solver solver' before after netlist certificate report (Unsupplied node) =
     RefusesFile before after netlist (Unsupplied node)
+Solves solver solver' before after netlist certificate report (Built built) = ⊥
+Solves solver solver' before after netlist certificate report Generated = ⊥
 Solves solver solver' before after netlist certificate report (WriteFault file) =
     (signed : Signed) × SignsFile solver.told before.known netlist signed
     × (((file ≡ certificate) × WriteFailed before after certificate × StandsAtCertificate before after certificate signed)

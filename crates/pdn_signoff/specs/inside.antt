@@ -1,2 +1,4 @@
 pub mod Check
 pub mod Solve
+pub mod Generate
+pub mod Build

@@ -5,18 +5,29 @@ ghost use Rattle.outside.specs.Files.{Holdings};
 ghost use Rattle.outside.specs.Known.{WhereKnown};
 ghost use Rattle.answers.specs.declared.answer.Answer.{Answer as Told};
 ghost use Rattle.answers.specs.declared.answer.Answer.TheVariants.{Want};
+ghost use Rattle.command_words.specs.Words.{IsCommand};
 ghost use Rattle.certificate_file.specs.declared.lists.Lists.{Lists};
 ghost use Rattle.grid_net.specs.Certificate.{IsCertificate};
 ghost use Rattle.judging.specs.Texts.{SolutionsLieBetween};
+ghost use Rattle.output_files.specs.Outputs.{HoldEach};
 ghost use Rattle.short_merge.specs.declared.merged.Merged.{Merged};
 ghost use Rattle.solving.specs.Signed.{EachIsSupplied};
 ghost use Rattle.spice_grid.specs.declared.named.Named.{Named};
 ghost use Rattle.pdn_signoff.specs.Check.{FilesThen};
 ghost use Rattle.pdn_signoff.specs.Solve.{SolverThen};
-ghost use Rattle.pdn_signoff.specs.Command.{IsCause, CanRise, Ends, PrintEnds, IsCheckOf, HasCertificate, IsSolveOf, LeavesSigned, LeavesAccepted, ChangesOnly, AreAlike};
-ghost use Rattle.pdn_signoff.specs.Words.{IsCheck, IsSolve, IsNotSolve, IsUsage};
+ghost use Rattle.pdn_signoff.specs.declared.design_files.DesignFiles.{DesignFiles as Names};
+ghost use Rattle.pdn_signoff.specs.Command.{IsCause, CanRise, Ends, PrintEnds, IsCheckOf, HasCertificate, IsSolveOf, LeavesSigned, LeavesAccepted, ChangesOnly, ChangesAmong, AreAlike};
+ghost use Rattle.pdn_signoff.specs.Generate.{file_names, design_texts};
+ghost use Rattle.building.specs.Inputs.{FiveTexts};
+ghost use Rattle.pdn_signoff.specs.declared.build_files.BuildFiles.{BuildFiles as BuildNames};
+ghost use Rattle.pdn_signoff.specs.Build.{files_written, LeavesBuilt, AreAccepted};
+ghost use Rattle.pdn_signoff.specs.Words.{IsCheck, IsSolve, IsGenerate, IsBuild, IsNotSolve, IsNotBuild, WriteNothing, IsUsage};
 
+use crate::build::build;
+use crate::build_files::BuildFiles;
 use crate::check::check;
+use crate::design_files::DesignFiles;
+use crate::generate::generate;
 use crate::solve::solve;
 use answers::Answer;
 use bound_check::no_failing_test;
@@ -39,22 +50,28 @@ const WANT: u8 = 10;
 /// The order of the work of `check` is: the words, the netlist is read, the certificate is read, the netlist's text, its
 /// shorts are merged, the certificate's text, the test. That of `solve` is: the words, the netlist is read, its text, its
 /// shorts are merged, the supply is tested, the network is certified, the certificate is written, the report is written.
-/// The line comes last. What comes later is answered only where nothing earlier is refused. `check` judges a netlist of
-/// which some node has no supply as any other.
+/// That of `generate` is: the words, the texts are made, the five files are written in the order technology, cells, design,
+/// script, bias file. That of `build` is: the words, the five files are read, their texts, the grid is drawn, its network is
+/// extracted, the supply is tested, the network is certified, the four files are written in the order DEF, netlist,
+/// certificate, report. The line comes last. What comes later is answered only where nothing earlier is refused. `check`
+/// judges a netlist of which some node has no supply as any other.
 ///
 /// | Status | Line | When |
 /// |---|---|---|
+/// | 0, 1 | `built <p> pieces <s> stacks ..` | `build`: the four outputs are written; 1 where some verdict is UNSAFE or OPEN |
 /// | 0 | `certified <n> nodes` | `check`: the certificate holds on the merged netlist, of n groups |
 /// | 0 | `solved <n> nodes <r> resistors <k> sweeps` | `solve`: certificate and report are written, of n groups |
-/// | 2 | `pdn: Usage` | the words are those of no command, or of one that is not made yet: `build` and `generate` |
+/// | 0 | `generated` | `generate`: the five files hold the texts of the design |
+/// | 2 | `pdn: Usage` | the words are those of no command |
 /// | 3 | `pdn: ReadFault <file>` | the file could not be read |
-/// | 3 | `pdn: WriteFault <file>` | `solve`: the file could not be written |
+/// | 3 | `pdn: WriteFault <file>` | `build`, `solve` and `generate`: the file could not be written |
 /// | 3 | none, or a part of it | the line could not be written |
 /// | 4 | `pdn: TooLong <file>` | the file has more than 2^28 bytes |
 /// | 4 | `pdn: <file>:<line>:<word>: <Kind>` | its text is refused at this word; after `Number` stands why |
+/// | 5 | `pdn: <Variant> ..` | `build`: the script draws no grid, or no network is extracted from it |
 /// | 6 | `pdn: Range <quantity> <at> <number>` | a quantity of the netlist passes its limit |
 /// | 6 | `pdn: PadConflict <node> <first> <second>` | two pads of one node, or of one group, differ |
-/// | 7 | `pdn: Unsupplied <node>` | `solve`: no chain of resistors joins the node to a pad; the first such node |
+/// | 7 | `pdn: Unsupplied <node>` | `build` and `solve`: no chain of resistors joins the node to a pad; the first such node |
 /// | 9 | `pdn: NotCertified <node> <side> <found>` | `check`: the certificate fails, first by this test |
 /// | 10 | `pdn: Want`, or a part of a line | memory ran out |
 pub fn run<F: Files, O: Sink, V: Solver>(
@@ -75,10 +92,14 @@ pub fn run<F: Files, O: Sink, V: Solver>(
         (record { known = O.known out.old; faults = O.faults out.old })
         (record { known = O.known out.new; faults = O.faults out.new }) answer }
 
-    // No file changes but the outputs of `solve`.
-    ensures kept { IsNotSolve words.now → F.known files.new ≡ F.known files.old }
+    // No file changes but the outputs of `build`, `solve` and `generate`.
+    ensures kept { WriteNothing words.now → F.known files.new ≡ F.known files.old }
     ensures others { (netlist certificate report : List ℕ) → IsSolve words.now netlist certificate report
         → WhereKnown (ChangesOnly certificate report) (F.known files.old) (F.known files.new) }
+    ensures among { (number side : ℕ) (names : Names) → IsGenerate words.now number side names
+        → WhereKnown (ChangesAmong (file_names names)) (F.known files.old) (F.known files.new) }
+    ensures outputs { (names : BuildNames) → IsBuild words.now names
+        → WhereKnown (ChangesAmong (files_written names)) (F.known files.old) (F.known files.new) }
 
     // A run ends with 3 or 10, or no call on the files or the sink failed.
     ensures calm { result ≢ 3 → result ≢ 10
@@ -131,6 +152,36 @@ pub fn run<F: Files, O: Sink, V: Solver>(
         → ¬ Rose (F.counts files.old).faults (F.counts files.new).faults → ¬ Rose (O.faults out.old) (O.faults out.new)
         → ((result ≡ 0) × EachIsSupplied merged.net)
         ⊎ (((result ≡ 7) × ¬ EachIsSupplied merged.net) ⊎ (result ≡ 10)) }
+
+    // After the status 0 of `generate` its five files hold the texts of the design with this number and this side, and all
+    // other files stay, where it is known what the files hold.
+    ensures generated { (number side : ℕ) (names : Names) → IsGenerate words.now number side names → result ≡ 0
+        → WhereKnown (HoldEach (design_texts number side names)) (F.known files.old) (F.known files.new) }
+
+    // Words of `generate` end with 0, where no call fails and memory lasts.
+    ensures made { (number side : ℕ) (names : Names) → IsGenerate words.now number side names
+        → ¬ Rose (F.counts files.old).faults (F.counts files.new).faults → ¬ Rose (O.faults out.old) (O.faults out.new)
+        → (result ≡ 0) ⊎ (result ≡ 10) }
+
+    // After the status 0 or 1 of `build` its four outputs hold the texts of the grid that the script draws over the design,
+    // of the network of that grid, with one resistor for each piece of wire between neighbouring junctions and for each
+    // array of cuts and no other, of a tight certificate of the network, and of the report. For every solution of Ohm's
+    // and Kirchhoff's laws on the network, for every load within its range and over any common denominator, each node's
+    // voltage and each branch's current lie within the intervals that the report holds for it, and each branch that is
+    // printed SAFE keeps its limit. The status is 1 where some verdict is UNSAFE or OPEN. All of it speaks of what the
+    // files held at entry and hold after the call, where that is known.
+    ensures built { (names : BuildNames) → IsBuild words.now names → (result ≡ 0) ⊎ (result ≡ 1)
+        → WhereKnown (LeavesBuilt (V.told solver.old) names result) (F.known files.old) (F.known files.new) }
+
+    // Then the solver was asked.
+    ensures build_asked { (names : BuildNames) → IsBuild words.now names → (result ≡ 0) ⊎ (result ≡ 1)
+        → Rose (V.proposals solver.old) (V.proposals solver.new) }
+
+    // Texts that nothing refuses are built, where no call fails and memory lasts: with 0 or 1.
+    ensures completed { (held : Holdings) (names : BuildNames) (texts : FiveTexts) → F.known files.old ≡ Some held
+        → IsBuild words.now names → AreAccepted held names texts
+        → ¬ Rose (F.counts files.old).faults (F.counts files.new).faults → ¬ Rose (O.faults out.old) (O.faults out.new)
+        → (result ≡ 0) ⊎ ((result ≡ 1) ⊎ (result ≡ 10)) }
 {
     no_failing_test();
     answers_to_texts();
@@ -179,19 +230,38 @@ fn answer_of<F: Files, V: Solver>(
 {
     words_have_one_command();
     match read(alloc, words) {
-        Ok(
-            Command::Check {
-                netlist,
-                certificate,
-            },
-        ) => check(alloc, files, netlist.as_str(), certificate.as_str()),
-        Ok(
-            Command::Solve {
-                netlist,
-                certificate,
-                report,
-            },
-        ) => solve(
+        Ok(command) => carry_out(alloc, command, files, solver),
+        Err(WordsError::Usage) => Answer::Usage,
+        Err(WordsError::Want) => Answer::Want,
+    }
+}
+
+/// Carries out the command.
+fn carry_out<F: Files, V: Solver>(
+    alloc: Global,
+    command: Command,
+    files: &mut F,
+    solver: &mut V,
+) -> Answer
+    requires { (words : List (List ℕ)) × IsCommand words command }
+    ensures cause { (words : List (List ℕ)) → IsCommand words command → IsCause words
+        (record { told = V.told solver.old; proposals = V.proposals solver.old })
+        (record { told = V.told solver.new; proposals = V.proposals solver.new })
+        (record { known = F.known files.old; counts = F.counts files.old })
+        (record { known = F.known files.new; counts = F.counts files.new }) result }
+    ensures told { V.told solver.new ≡ V.told solver.old }
+{
+    words_have_one_command();
+    match command {
+        Command::Check {
+            netlist,
+            certificate,
+        } => check(alloc, files, netlist.as_str(), certificate.as_str()),
+        Command::Solve {
+            netlist,
+            certificate,
+            report,
+        } => solve(
             alloc,
             files,
             netlist.as_str(),
@@ -199,11 +269,48 @@ fn answer_of<F: Files, V: Solver>(
             report.as_str(),
             solver,
         ),
-        // These are not made yet.
-        Ok(Command::Build { .. }) => Answer::Usage,
-        Ok(Command::Generate { .. }) => Answer::Usage,
-        Err(WordsError::Usage) => Answer::Usage,
-        Err(WordsError::Want) => Answer::Want,
+        Command::Generate {
+            number,
+            side,
+            lef,
+            cells,
+            def,
+            pdn,
+            bias,
+        } => {
+            let outputs = DesignFiles {
+                lef,
+                cells,
+                def,
+                pdn,
+                bias,
+            };
+            generate(alloc, files, number, side, &outputs)
+        }
+        Command::Build {
+            lef,
+            cells,
+            def,
+            pdn,
+            bias,
+            out_def,
+            netlist,
+            certificate,
+            report,
+        } => {
+            let names = BuildFiles {
+                lef,
+                cells,
+                def,
+                pdn,
+                bias,
+                out_def,
+                netlist,
+                certificate,
+                report,
+            };
+            build(alloc, files, &names, solver)
+        }
     }
 }
 
@@ -236,10 +343,12 @@ fn print<O: Sink>(out: &mut O, line: &[u8], status: u8) -> u8
 }
 
 /// Where it is known what the files hold and no count stands at its last value, one answer alone, want of memory aside,
-/// has its cause: so each of them comes exactly where its cause holds. Of `solve` this leaves open the number of sweeps.
+/// has its cause: so each of them comes exactly where its cause holds. Of `solve` this leaves open the number of sweeps. Of
+/// `build` nothing is said here. Of
+/// `build` nothing is said here.
 pub fn one_answer_has_its_cause()
     ensures one { (words : List (List ℕ)) (solver solver' : SolverThen) (before after : FilesThen) (held : Holdings)
-        (a b : Told) → before.known ≡ Some held → CanRise after.counts → IsNotSolve words
+        (a b : Told) → before.known ≡ Some held → CanRise after.counts → IsNotSolve words → IsNotBuild words
         → IsCause words solver solver' before after a → IsCause words solver solver' before after b
         → a ≢ Want → b ≢ Want → a ≡ b }
     ensures solved { (words : List (List ℕ)) (solver solver' : SolverThen) (before after : FilesThen) (held : Holdings)

@@ -326,7 +326,7 @@ fn usage(rt: HostRuntime) -> Result<(), Fail> {
         "",
         "solve|--netlist|net|--certificate|cert",
         "solve|--netlist|net|--certificate|out|--report|out",
-        "generate|--number|1|--side|24|--lef|a|--cells|b|--def|c|--pdn|d|--bias|e",
+        "generate|--number|1|--side|23|--lef|a|--cells|b|--def|c|--pdn|d|--bias|e",
         "check|--netlist|net|--netlist|net",
         "check|--netlist|net",
         "check|--netlist||--certificate|cert",

@@ -1,5 +1,7 @@
 use Rattle.pdn_signoff.specs.Solve.{SolverThen}
-use Rattle.pdn_signoff.proofs.Causes.{AreLaws, not_solve, ran_other, kept, calm, usage, refused, certified, judged, bounded}
+use Rattle.pdn_signoff.proofs.Causes.{AreLaws, check_writes_nothing, ran_other, kept, calm, usage, refused, certified, judged, bounded}
+use Rattle.pdn_signoff.proofs.Completing.{among_built, built, asked_built, completed}
+use Rattle.pdn_signoff.proofs.Making.{among, generated, made}
 use Rattle.pdn_signoff.proofs.Signing.{AreSolvingLaws, others, signed, accepted, asked, solved}
 use Rattle.pdn_signoff.proofs.command.run.Goals as goal
 
@@ -49,7 +51,7 @@ returns-clause-certified g c netlist certificate is =
       bounded = c.texts_are_judged_once.ensures.bounded;
       one_command = c.words_have_one_command.ensures;
     } in
-    certified c.answers_to_texts.ensures.certified _ _ _ _ _ _ (ran_other _ s s' _ _ _ _ _ (not_solve laws _ netlist certificate is) c.run_command.ensures.answer)
+    certified c.answers_to_texts.ensures.certified _ _ _ _ _ _ (ran_other _ s s' _ _ _ _ _ (check_writes_nothing laws _ netlist certificate is) c.run_command.ensures.answer)
 
 pub returns-clause-judged : goal.returns-clause-judged
 returns-clause-judged g c held named merged lists known whole =
@@ -61,7 +63,7 @@ returns-clause-judged g c held named merged lists known whole =
       bounded = c.texts_are_judged_once.ensures.bounded;
       one_command = c.words_have_one_command.ensures;
     } in
-    judged laws c.no_failing_test.ensures.none _ _ _ _ _ _ (ran_other _ s s' _ _ _ _ _ (not_solve laws _ whole.netlist whole.certificate whole.words_are) c.run_command.ensures.answer) held named merged lists known whole
+    judged laws c.no_failing_test.ensures.none _ _ _ _ _ _ (ran_other _ s s' _ _ _ _ _ (check_writes_nothing laws _ whole.netlist whole.certificate whole.words_are) c.run_command.ensures.answer) held named merged lists known whole
 
 pub returns-clause-bounded : goal.returns-clause-bounded
 returns-clause-bounded g c held named merged lists known whole =
@@ -73,7 +75,7 @@ returns-clause-bounded g c held named merged lists known whole =
       bounded = c.texts_are_judged_once.ensures.bounded;
       one_command = c.words_have_one_command.ensures;
     } in
-    bounded laws _ _ _ _ _ _ (ran_other _ s s' _ _ _ _ _ (not_solve laws _ whole.netlist whole.certificate whole.words_are) c.run_command.ensures.answer) held named merged lists known whole
+    bounded laws _ _ _ _ _ _ (ran_other _ s s' _ _ _ _ _ (check_writes_nothing laws _ whole.netlist whole.certificate whole.words_are) c.run_command.ensures.answer) held named merged lists known whole
 
 pub returns-clause-signed : goal.returns-clause-signed
 returns-clause-signed g c =
@@ -123,3 +125,87 @@ returns-clause-solved g c =
     } in
     let solving : AreSolvingLaws = record { refusal = c.netlists_are_solved_once.ensures.refusal; supply = c.netlists_are_solved_once.ensures.supply; network = c.netlists_are_solved_once.ensures.network } in
     solved laws solving _ s s' _ _ _ _ _ c.run_command.ensures.answer
+
+pub returns-clause-among : goal.returns-clause-among
+returns-clause-among g c =
+    let s : SolverThen = record { told = g.V.Solver.told c.args.solver.now; proposals = g.V.Solver.proposals c.args.solver.now } in
+    let s' : SolverThen = record { told = g.V.Solver.told c.run_command.new.solver; proposals = g.V.Solver.proposals c.run_command.new.solver } in
+    let laws : AreLaws = record {
+      one = c.texts_are_judged_once.ensures.one;
+      tested = c.texts_are_judged_once.ensures.tested;
+      bounded = c.texts_are_judged_once.ensures.bounded;
+      one_command = c.words_have_one_command.ensures;
+    } in
+    among laws _ s s' _ _ _ _ _ c.run_command.ensures.answer
+
+pub returns-clause-generated : goal.returns-clause-generated
+returns-clause-generated g c =
+    let s : SolverThen = record { told = g.V.Solver.told c.args.solver.now; proposals = g.V.Solver.proposals c.args.solver.now } in
+    let s' : SolverThen = record { told = g.V.Solver.told c.run_command.new.solver; proposals = g.V.Solver.proposals c.run_command.new.solver } in
+    let laws : AreLaws = record {
+      one = c.texts_are_judged_once.ensures.one;
+      tested = c.texts_are_judged_once.ensures.tested;
+      bounded = c.texts_are_judged_once.ensures.bounded;
+      one_command = c.words_have_one_command.ensures;
+    } in
+    generated laws _ s s' _ _ _ _ _ c.run_command.ensures.answer
+
+pub returns-clause-made : goal.returns-clause-made
+returns-clause-made g c =
+    let s : SolverThen = record { told = g.V.Solver.told c.args.solver.now; proposals = g.V.Solver.proposals c.args.solver.now } in
+    let s' : SolverThen = record { told = g.V.Solver.told c.run_command.new.solver; proposals = g.V.Solver.proposals c.run_command.new.solver } in
+    let laws : AreLaws = record {
+      one = c.texts_are_judged_once.ensures.one;
+      tested = c.texts_are_judged_once.ensures.tested;
+      bounded = c.texts_are_judged_once.ensures.bounded;
+      one_command = c.words_have_one_command.ensures;
+    } in
+    made laws _ s s' _ _ _ _ _ c.run_command.ensures.answer
+
+pub returns-clause-outputs : goal.returns-clause-outputs
+returns-clause-outputs g c =
+    let s : SolverThen = record { told = g.V.Solver.told c.args.solver.now; proposals = g.V.Solver.proposals c.args.solver.now } in
+    let s' : SolverThen = record { told = g.V.Solver.told c.run_command.new.solver; proposals = g.V.Solver.proposals c.run_command.new.solver } in
+    let laws : AreLaws = record {
+      one = c.texts_are_judged_once.ensures.one;
+      tested = c.texts_are_judged_once.ensures.tested;
+      bounded = c.texts_are_judged_once.ensures.bounded;
+      one_command = c.words_have_one_command.ensures;
+    } in
+    among_built laws _ s s' _ _ _ _ _ c.run_command.ensures.answer
+
+pub returns-clause-built : goal.returns-clause-built
+returns-clause-built g c =
+    let s : SolverThen = record { told = g.V.Solver.told c.args.solver.now; proposals = g.V.Solver.proposals c.args.solver.now } in
+    let s' : SolverThen = record { told = g.V.Solver.told c.run_command.new.solver; proposals = g.V.Solver.proposals c.run_command.new.solver } in
+    let laws : AreLaws = record {
+      one = c.texts_are_judged_once.ensures.one;
+      tested = c.texts_are_judged_once.ensures.tested;
+      bounded = c.texts_are_judged_once.ensures.bounded;
+      one_command = c.words_have_one_command.ensures;
+    } in
+    built laws _ s s' _ _ _ _ _ c.run_command.ensures.answer
+
+pub returns-clause-build_asked : goal.returns-clause-build_asked
+returns-clause-build_asked g c =
+    let s : SolverThen = record { told = g.V.Solver.told c.args.solver.now; proposals = g.V.Solver.proposals c.args.solver.now } in
+    let s' : SolverThen = record { told = g.V.Solver.told c.run_command.new.solver; proposals = g.V.Solver.proposals c.run_command.new.solver } in
+    let laws : AreLaws = record {
+      one = c.texts_are_judged_once.ensures.one;
+      tested = c.texts_are_judged_once.ensures.tested;
+      bounded = c.texts_are_judged_once.ensures.bounded;
+      one_command = c.words_have_one_command.ensures;
+    } in
+    asked_built laws _ s s' _ _ _ _ _ c.run_command.ensures.answer
+
+pub returns-clause-completed : goal.returns-clause-completed
+returns-clause-completed g c =
+    let s : SolverThen = record { told = g.V.Solver.told c.args.solver.now; proposals = g.V.Solver.proposals c.args.solver.now } in
+    let s' : SolverThen = record { told = g.V.Solver.told c.run_command.new.solver; proposals = g.V.Solver.proposals c.run_command.new.solver } in
+    let laws : AreLaws = record {
+      one = c.texts_are_judged_once.ensures.one;
+      tested = c.texts_are_judged_once.ensures.tested;
+      bounded = c.texts_are_judged_once.ensures.bounded;
+      one_command = c.words_have_one_command.ensures;
+    } in
+    completed laws _ s s' _ _ _ _ _ c.run_command.ensures.answer

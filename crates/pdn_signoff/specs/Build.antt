@@ -1,0 +1,116 @@
+-- What `build` answers, and what has to be so where it gives each answer.
+use Rattle.std.specs.Prelude.{◌≡◌, ◌≤◌, ◌<◌, ◌⊎◌, ℕ, ℤ, List, [], ◌∷◌, Option, Some, IfSome, length, take}
+use Rattle.outside.specs.Counts.{Rose}
+use Rattle.outside.specs.Files.{Holdings}
+use Rattle.outside.specs.Whole.{longest_text}
+use Rattle.answers.specs.Answer.{built_status}
+use Rattle.answers.specs.declared.answer.Answer.{Answer}
+use Rattle.answers.specs.declared.answer.Answer.TheVariants.{Usage, Want, ReadFault, WriteFault, TooLong, Refused, NoGrid, Range, PadConflict, Unsupplied, Built, Generated, Solved, Certified, NotCertified}
+use Rattle.building.specs.declared.outputs.Outputs.{Outputs}
+use Rattle.building.specs.Building.{Design, IsDesignOf, AreOutputsOf}
+use Rattle.building.specs.Inputs.{FileText, FiveTexts}
+use Rattle.building.specs.Refusal.{IsUnbuilt}
+use Rattle.building.specs.Solutions.{SolutionsKeep}
+use Rattle.input_files.specs.Inputs.{name_at, EachFits}
+use Rattle.output_files.specs.Outputs.{Texts, HoldEach}
+use Rattle.pdn_signoff.specs.declared.build_files.BuildFiles.{BuildFiles}
+use Rattle.pdn_signoff.specs.Check.{FilesThen, NoneFailed, ReadFailed, IsTextOf, IsTooLong}
+use Rattle.pdn_signoff.specs.Solve.{SolverThen, IsKept}
+use Rattle.pdn_signoff.specs.Outputs.{AreWritten, StopsAt, Stops}
+
+-- The files that are read, in their order, and those that are written, in theirs.
+abbrev pub files_read : BuildFiles → List (List ℕ)
+files_read f = f.lef ∷ f.cells ∷ f.def ∷ f.pdn ∷ f.bias ∷ []
+
+abbrev pub files_written : BuildFiles → List (List ℕ)
+files_written f = f.out_def ∷ f.netlist ∷ f.certificate ∷ f.report ∷ []
+
+-- The outputs with the names of their files, in the order in which they are written.
+abbrev pub output_texts : BuildFiles → Outputs → Texts
+output_texts f outputs =
+    (f.out_def, outputs.def) ∷ (f.netlist, outputs.netlist) ∷ (f.certificate, outputs.certificate)
+    ∷ (f.report, outputs.report) ∷ []
+
+-- A text is that of the file of this name, of at most as many bytes as an input may have.
+pub record IsInput (known : Option Holdings) (file : List ℕ) (t : FileText) : Type 0 where
+  pub file_is : t.file ≡ file
+  pub text_is : IsTextOf known file t.text
+  pub fits : length t.text ≤ longest_text
+
+-- The five texts are those of the files that are read.
+pub record AreInputs (known : Option Holdings) (f : BuildFiles) (t : FiveTexts) : Type 0 where
+  pub lef : IsInput known f.lef t.lef
+  pub cells : IsInput known f.cells t.cells
+  pub def : IsInput known f.def t.def
+  pub pdn : IsInput known f.pdn t.pdn
+  pub bias : IsInput known f.bias t.bias
+
+-- The texts of the files are built into these outputs: the texts of the grid that the script draws over the design, of its
+-- network, of a tight certificate and of the report; and every solution of the network keeps what the report says.
+pub record BuildsFiles (told : Option (List ℤ × List ℤ)) (known : Option Holdings) (f : BuildFiles) (outputs : Outputs)
+    : Type 0 where
+  pub texts : FiveTexts
+  pub are_inputs : AreInputs known f texts
+  pub design : Design
+  pub is_design : IsDesignOf told texts design
+  pub are_outputs : AreOutputsOf design outputs
+  pub keep : SolutionsKeep design.extracted.net design.certificate design.limits
+
+-- The files were read without a fault, and nothing is built of their texts; no file was written.
+abbrev pub RefusesFiles : FilesThen → FilesThen → BuildFiles → Answer → Type 0
+RefusesFiles before after f answer =
+    IsKept before after × NoneFailed before after
+    × ((t : FiveTexts) × AreInputs before.known f t × IsUnbuilt t answer)
+
+-- The file of a place is the first that was not read: each before it has at most as many bytes as an input may have.
+pub record IsFirstUnread (known : Option Holdings) (f : BuildFiles) (file : List ℕ) (place : ℕ) : Type 0 where
+  pub below : place < 5
+  pub is : file ≡ name_at (files_read f) place
+  pub earlier : IfSome known (λ held. EachFits held longest_text (take place (files_read f)))
+
+-- Why `build` over these files gives an answer: each answer with what has to be so, and with what the files hold then. The
+-- five files are read and their texts built, and then the four outputs are written; what comes later is answered only where
+-- nothing earlier is refused. Where it is built, the solver was asked.
+abbrev pub Builds : SolverThen → SolverThen → FilesThen → FilesThen → BuildFiles → Answer → Type 0
+Builds solver solver' before after f (ReadFault file) =
+    IsKept before after × ((place : ℕ) × IsFirstUnread before.known f file place × ReadFailed before after file)
+Builds solver solver' before after f (TooLong file) =
+    IsKept before after × NoneFailed before after
+    × ((place : ℕ) × IsFirstUnread before.known f file place × IsTooLong before.known file)
+Builds solver solver' before after f (Refused file place kind) = RefusesFiles before after f (Refused file place kind)
+Builds solver solver' before after f (NoGrid words) = RefusesFiles before after f (NoGrid words)
+Builds solver solver' before after f (Range quantity at number) =
+    RefusesFiles before after f (Range quantity at number)
+Builds solver solver' before after f (Unsupplied node) = RefusesFiles before after f (Unsupplied node)
+Builds solver solver' before after f (WriteFault file) =
+    (outputs : Outputs) × BuildsFiles solver.told before.known f outputs
+    × Stops before after (output_texts f outputs) (WriteFault file)
+Builds solver solver' before after f (Built numbers) =
+    (outputs : Outputs) × BuildsFiles solver.told before.known f outputs × (numbers ≡ outputs.numbers)
+    × NoneFailed before after × Rose solver.proposals solver'.proposals
+    × AreWritten before after (output_texts f outputs)
+Builds solver solver' before after f Want =
+    IsKept before after
+    ⊎ ((outputs : Outputs) × BuildsFiles solver.told before.known f outputs
+    × (((place : ℕ) × StopsAt before after (output_texts f outputs) place)
+    ⊎ AreWritten before after (output_texts f outputs)))
+Builds solver solver' before after f Usage = ⊥
+Builds solver solver' before after f (PadConflict node first second) = ⊥
+Builds solver solver' before after f Generated = ⊥
+Builds solver solver' before after f (Solved nodes resistors sweeps) = ⊥
+Builds solver solver' before after f (Certified nodes) = ⊥
+Builds solver solver' before after f (NotCertified node side found) = ⊥
+
+-- What a build leaves that ended with this status: the four outputs hold the texts that were built of what the five files
+-- held, all other files stay, and the status is 1 where some verdict of the report is UNSAFE or OPEN, and else 0.
+pub record LeavesBuilt (told : Option (List ℤ × List ℤ)) (f : BuildFiles) (status : ℕ) (old new : Holdings) : Type 0 where
+  pub outputs : Outputs
+  pub builds : BuildsFiles told (Some old) f outputs
+  pub files : HoldEach (output_texts f outputs) old new
+  pub status_is : status ≡ built_status outputs.numbers
+
+-- The texts that the five files hold are these, and nothing refuses them: each has its record, the script draws a grid over
+-- the design, the grid has a network, and each node is supplied.
+pub record AreAccepted (held : Holdings) (f : BuildFiles) (t : FiveTexts) : Type 0 where
+  pub texts : AreInputs (Some held) f t
+  pub accepted : (answer : Answer) → IsUnbuilt t answer → answer ≡ Want

@@ -1,7 +1,9 @@
 //! Runs of `build` on the small design, over files and a sink in memory.
+use crate::build_texts::{BIAS, DEF, NETLIST, REPORT, SCRIPT, WRITTEN_DEF};
 use crate::run;
 use grid_gen::{CELLS, TECHNOLOGY};
-use grid_net::Fixed;
+use grid_net::hostile::{Alternating, Everywhere, Filling};
+use grid_net::{Fixed, Solver};
 use outside::{Argv, MemFiles, MemSink, Name};
 use std::alloc::{AllocError, Global};
 use std::process::Abort;
@@ -11,7 +13,241 @@ use std::test::Fail;
 const WORDS: &str =
     "build|--lef|lef|--cells|cells|--def|def|--pdn|pdn|--bias|bias|--out-def|out|--netlist|net|--certificate|cert|--report|rep";
 
-const DEF: &[u8] = b"VERSION 5.8 ;
+/// The outputs, in the order in which they are written.
+const OUTPUTS: [&str; 4] = ["out", "net", "cert", "rep"];
+
+/// How the line of the small design begins.
+const BUILT: &[u8] =
+    b"built 4 pieces 2 stacks 12 nodes 10 resistors 2 pads 10 safe 0 unsafe 0 open 2 unlimited ";
+
+/// The texts of a run, with the call on a named file and the call on the sink that fail.
+#[derive(Clone, Copy)]
+struct Run<'a> {
+    def: &'a [u8],
+    script: &'a [u8],
+    bias: &'a [u8],
+    failing: (&'a str, u64),
+    failing_write: u64,
+}
+
+/// The small design, where no call fails.
+fn small() -> Run<'static> {
+    Run {
+        def: DEF,
+        script: SCRIPT,
+        bias: BIAS,
+        failing: ("", 0),
+        failing_write: 0,
+    }
+}
+
+fn argv(alloc: Global, words: &str) -> Result<Argv, AllocError> {
+    let mut argv = Argv::new(alloc)?;
+    for word in words.split('|') {
+        argv.push(word)?;
+    }
+    Ok(argv)
+}
+
+fn held(alloc: Global, run: &Run<'_>) -> Result<Vec<(Name, Vec<u8>)>, AllocError> {
+    let files = vec![in alloc;
+        (
+            Name::new(alloc, b"lef")?,
+            Vec::from_slice(alloc, TECHNOLOGY)?
+        ),
+        (Name::new(alloc, b"cells")?, Vec::from_slice(alloc, CELLS)?),
+        (Name::new(alloc, b"def")?, Vec::from_slice(alloc, run.def)?),
+        (
+            Name::new(alloc, b"pdn")?,
+            Vec::from_slice(alloc, run.script)?
+        ),
+        (
+            Name::new(alloc, b"bias")?,
+            Vec::from_slice(alloc, run.bias)?
+        ),
+    ]?;
+    Ok(files)
+}
+
+/// What a run with this solver answers and how its line begins; and the files after it.
+fn solved<V: Solver>(
+    rt: &(impl Abort + AllocGlobal),
+    inputs: &Run<'_>,
+    solver: &mut V,
+    status: u8,
+    line: &[u8],
+) -> Result<MemFiles, AllocError> {
+    let alloc = rt.alloc();
+    let failing =
+        vec![in alloc; (Name::new(alloc, inputs.failing.0.as_bytes())?, inputs.failing.1)]?;
+    let mut files = MemFiles::new(alloc, held(alloc, inputs)?, failing)?;
+    let mut out = MemSink::new(alloc, vec![in alloc; inputs.failing_write]?)?;
+    let words = argv(alloc, WORDS)?;
+    let found = run(alloc, &words, &mut files, &mut out, solver);
+    assert_eq!(rt; found, status);
+    assert!(rt; out.bytes().starts_with(line), "the line");
+    assert!(rt;
+        files.bytes("def") == Some(inputs.def),
+        "the design stays"
+    );
+    Ok(files)
+}
+
+/// The same with a solver that proposes nothing.
+fn ends(
+    rt: &(impl Abort + AllocGlobal),
+    inputs: &Run<'_>,
+    status: u8,
+    line: &[u8],
+) -> Result<MemFiles, AllocError> {
+    let alloc = rt.alloc();
+    let mut solver = Fixed::new(Vec::new(alloc), Vec::new(alloc));
+    solved(rt, inputs, &mut solver, status, line)
+}
+
+/// A run that ends before anything is written.
+fn refused(
+    rt: &(impl Abort + AllocGlobal),
+    inputs: &Run<'_>,
+    status: u8,
+    line: &[u8],
+) -> Result<(), AllocError> {
+    let files = ends(rt, inputs, status, line)?;
+    for file in OUTPUTS {
+        assert!(rt; files.bytes(file).is_none(), "nothing is made");
+    }
+    Ok(())
+}
+
+/// What the small design's DEF, netlist and report are.
+fn are_those(
+    rt: &(impl Abort + AllocGlobal),
+    files: &MemFiles,
+    netlist: &[u8],
+    report: &[u8],
+) {
+    assert!(rt; files.bytes("out") == Some(WRITTEN_DEF), "the DEF");
+    assert!(rt; files.bytes("net") == Some(netlist), "the netlist");
+    assert!(rt; files.bytes("rep") == Some(report), "the report");
+}
+
+/// The four texts and the line; the certificate's digits are free, and `check` accepts them.
+#[test]
+fn small_design(rt: HostRuntime) -> Result<(), Fail> {
+    let mut files = ends(&rt, &small(), 0, BUILT)?;
+    are_those(&rt, &files, NETLIST, REPORT);
+    let alloc = rt.alloc();
+    let words = argv(alloc, "check|--netlist|net|--certificate|cert")?;
+    let mut out = MemSink::new(alloc, Vec::new(alloc))?;
+    let mut solver = Fixed::new(Vec::new(alloc), Vec::new(alloc));
+    let found = run(alloc, &words, &mut files, &mut out, &mut solver);
+    assert_eq!(rt; found, 0);
+    assert_eq!(rt; out.bytes(), b"certified 12 nodes\n".as_slice());
+    Ok(())
+}
+
+/// Whatever a solver proposes, the same is written: the tightness leaves the printed digits no room.
+#[test]
+fn hostile_solvers(rt: HostRuntime) -> Result<(), Fail> {
+    let files = solved(&rt, &small(), &mut Everywhere::new(i128::MIN), 0, BUILT)?;
+    are_those(&rt, &files, NETLIST, REPORT);
+    let files = solved(&rt, &small(), &mut Everywhere::new(i128::MAX), 0, BUILT)?;
+    are_those(&rt, &files, NETLIST, REPORT);
+    let files = solved(&rt, &small(), &mut Alternating::new(), 0, BUILT)?;
+    are_those(&rt, &files, NETLIST, REPORT);
+    let files = solved(&rt, &small(), &mut Filling::new(), 0, BUILT)?;
+    are_those(&rt, &files, NETLIST, REPORT);
+    Ok(())
+}
+
+/// A limit of drops that a node passes: all is written, and the status is 1.
+#[test]
+fn a_drop_beyond_its_limit(rt: HostRuntime) -> Result<(), Fail> {
+    let bias = b"supply VDD 1.1
+supply VSS 0
+droplimit VDD 0.0026
+instance u1 333.3u
+pad VDD metal4 3 0
+pad VSS metal4 1 1.4
+";
+    let line =
+        b"built 4 pieces 2 stacks 12 nodes 10 resistors 2 pads 10 safe 1 unsafe 0 open 1 unlimited ";
+    let files = ends(&rt, &Run { bias, ..small() }, 1, line)?;
+    let head = b"pdn report 1\nnet VDD 0.002600000000000000000000 UNSAFE\nnet VSS none NOLIMIT\n";
+    assert!(rt; files.bytes("out") == Some(WRITTEN_DEF), "the DEF");
+    assert!(rt;
+        files.bytes("rep").is_some_and(|text| text.starts_with(head)),
+        "the verdict"
+    );
+    Ok(())
+}
+
+/// A component that draws from nothing to its current: both ends stand in the netlist.
+#[test]
+fn range_of_a_component(rt: HostRuntime) -> Result<(), Fail> {
+    let bias = b"supply VDD 1.1
+supply VSS 0
+instance u1 0 333.3u
+pad VDD metal4 3 0
+pad VSS metal4 1 1.4
+";
+    let files = ends(&rt, &Run { bias, ..small() }, 0, BUILT)?;
+    let tail = b"I1 n1_3800_2800 0 0.000333300000000
+*range 0.000000000000000 0.000333300000000
+I2 n8_3800_0 0 -0.000333300000000
+*range -0.000333300000000 0.000000000000000
+.op
+.end
+";
+    assert!(rt;
+        files.bytes("net").is_some_and(|text| text.ends_with(tail)),
+        "the ranges"
+    );
+    Ok(())
+}
+
+/// A row that two domains share is refused.
+#[test]
+fn row_across_two_domains(rt: HostRuntime) -> Result<(), Fail> {
+    let def = b"VERSION 5.8 ;
+DESIGN small ;
+UNITS DISTANCE MICRONS 2000 ;
+DIEAREA ( 0 0 ) ( 8000 2800 ) ;
+ROW r0 unit 0 0 N DO 20 BY 1 STEP 400 0 ;
+REGIONS 1 ;
+- aon ( 4000 0 ) ( 8000 2800 ) ;
+END REGIONS
+END DESIGN
+";
+    let script = b"set_voltage_domain -name CORE -power VDD -ground VSS
+set_voltage_domain -name AON -power VDDA -ground VSS -region aon
+define_pdn_grid -name grid -voltage_domains CORE
+add_pdn_stripe -grid grid -layer metal1 -width 0.17 -followpins
+pdngen
+";
+    refused(
+        &rt,
+        &Run {
+            def,
+            script,
+            ..small()
+        },
+        5,
+        b"pdn: RowAcross r0\n",
+    )?;
+    Ok(())
+}
+
+/// The small design with a blockage.
+fn blocked(
+    rt: &(impl Abort + AllocGlobal),
+    blockage: &[u8],
+    line: &[u8],
+) -> Result<(), AllocError> {
+    let alloc = rt.alloc();
+    let mut def = Vec::from_slice(
+        alloc,
+        b"VERSION 5.8 ;
 DESIGN small ;
 UNITS DISTANCE MICRONS 2000 ;
 DIEAREA ( 0 0 ) ( 8000 2800 ) ;
@@ -19,113 +255,99 @@ ROW r0 unit 0 0 N DO 20 BY 1 STEP 400 0 ;
 COMPONENTS 1 ;
 - u1 C0 + PLACED ( 2400 0 ) N ;
 END COMPONENTS
-END DESIGN
-";
+BLOCKAGES 1 ;
+",
+    )?;
+    def.extend_from_slice(blockage)?;
+    def.extend_from_slice(b"END BLOCKAGES\nEND DESIGN\n")?;
+    refused(rt, &Run { def: &def, ..small() }, 7, line)
+}
 
-const PDN: &[u8] = b"set_voltage_domain -name CORE -power VDD -ground VSS
-define_pdn_grid -name grid -voltage_domains CORE
-add_pdn_stripe -grid grid -layer metal1 -width 0.17 -followpins
-add_pdn_stripe -grid grid -layer metal4 -width 0.48 -pitch 4 -offset 1
-add_pdn_connect -grid grid -layers {metal1 metal4}
-pdngen
-";
+/// A strap that a blockage cuts, or whose stack one takes away, leaves a node without supply.
+#[test]
+fn straps_cut_by_blockages(rt: HostRuntime) -> Result<(), Fail> {
+    blocked(
+        &rt,
+        b"- LAYER metal4 RECT ( 5900 1300 ) ( 6100 1500 ) ;\n",
+        b"pdn: Unsupplied n1_3800_2800\n",
+    )?;
+    blocked(
+        &rt,
+        b"- LAYER metal4 RECT ( 1600 -50 ) ( 1700 50 ) ;\n",
+        b"pdn: Unsupplied n8_3800_0\n",
+    )?;
+    blocked(
+        &rt,
+        b"- LAYER metal2 RECT ( 1900 -10 ) ( 2100 10 ) ;\n",
+        b"pdn: Unsupplied n8_3800_0\n",
+    )?;
+    Ok(())
+}
 
-const BIAS: &[u8] = b"supply VDD 1.1
-supply VSS 0
-instance u1 333.3u
-pad VDD metal4 3 0
-pad VSS metal4 1 1.4
-";
-
-/// A drop that the design keeps nowhere, since 333.3 microamperes flow through some ohms.
-const TIGHT_BIAS: &[u8] = b"supply VDD 1.1
-supply VSS 0
-droplimit VDD 0.0000001
-instance u1 333.3u
-pad VDD metal4 3 0
-pad VSS metal4 1 1.4
-";
-
-fn argv(alloc: Global) -> Result<Argv, AllocError> {
-    let mut argv = Argv::new(alloc)?;
-    for word in WORDS.split('|') {
-        argv.push(word)?;
+/// An input that cannot be read: nothing is made.
+#[test]
+fn a_fault_of_each_input(rt: HostRuntime) -> Result<(), Fail> {
+    let rows: [(&str, &[u8]); 5] = [
+        ("lef", b"pdn: ReadFault lef\n"),
+        ("cells", b"pdn: ReadFault cells\n"),
+        ("def", b"pdn: ReadFault def\n"),
+        ("pdn", b"pdn: ReadFault pdn\n"),
+        ("bias", b"pdn: ReadFault bias\n"),
+    ];
+    for (file, line) in rows {
+        for call in [1, 2] {
+            let failing = (file, call);
+            refused(&rt, &Run { failing, ..small() }, 3, line)?;
+        }
     }
-    Ok(argv)
+    Ok(())
 }
 
-fn held(alloc: Global, bias: &[u8]) -> Result<Vec<(Name, Vec<u8>)>, AllocError> {
-    let files = vec![in alloc;
-        (
-            Name::new(alloc, b"lef")?,
-            Vec::from_slice(alloc, TECHNOLOGY)?
-        ),
-        (Name::new(alloc, b"cells")?, Vec::from_slice(alloc, CELLS)?),
-        (Name::new(alloc, b"def")?, Vec::from_slice(alloc, DEF)?),
-        (Name::new(alloc, b"pdn")?, Vec::from_slice(alloc, PDN)?),
-        (Name::new(alloc, b"bias")?, Vec::from_slice(alloc, bias)?),
-    ]?;
-    Ok(files)
-}
-
-/// What a run with this bias file answers and how its line begins, where this call on the named file fails; and the files
-/// after it.
-fn ends(
+/// The outputs are whole up to this one, which is not made, or made and empty; those after it are not made.
+fn stops_at(
     rt: &(impl Abort + AllocGlobal),
-    bias: &[u8],
-    failing: (&str, u64),
-    status: u8,
+    whole: &MemFiles,
+    stopped: usize,
+    call: u64,
     line: &[u8],
-) -> Result<MemFiles, AllocError> {
-    let alloc = rt.alloc();
-    let failing = vec![in alloc; (Name::new(alloc, failing.0.as_bytes())?, failing.1)]?;
-    let mut files = MemFiles::new(alloc, held(alloc, bias)?, failing)?;
-    let mut out = MemSink::new(alloc, Vec::new(alloc))?;
-    let mut solver = Fixed::new(Vec::new(alloc), Vec::new(alloc));
-    let words = argv(alloc)?;
-    let found = run(alloc, &words, &mut files, &mut out, &mut solver);
-    assert_eq!(rt; found, status);
-    assert!(rt; out.bytes().starts_with(line));
-    Ok(files)
-}
-
-/// The grid is built, and each verdict is SAFE or without a limit.
-#[test]
-fn small_design(rt: HostRuntime) -> Result<(), Fail> {
-    let line =
-        b"built 4 pieces 2 stacks 12 nodes 10 resistors 2 pads 10 safe 0 unsafe 0 open 2 unlimited ";
-    let files = ends(&rt, BIAS, ("", 0), 0, line)?;
-    for file in ["out", "net", "cert", "rep"] {
-        assert!(rt; files.bytes(file).is_some());
+) -> Result<(), AllocError> {
+    let failing = (OUTPUTS[stopped], call);
+    let files = ends(rt, &Run { failing, ..small() }, 3, line)?;
+    for (place, file) in OUTPUTS.into_iter().enumerate() {
+        let found = files.bytes(file);
+        if place < stopped {
+            assert!(rt; found == whole.bytes(file), "it is whole");
+        } else if place == stopped && call == 2 {
+            assert!(rt; found == Some(b"".as_slice()), "it is made");
+        } else {
+            assert!(rt; found.is_none(), "it is not made");
+        }
     }
     Ok(())
 }
 
-/// A limit of drops that is passed: all is written, and the status is 1.
+/// An output that cannot be made, or whose text cannot be written.
 #[test]
-fn a_drop_beyond_its_limit(rt: HostRuntime) -> Result<(), Fail> {
-    let line =
-        b"built 4 pieces 2 stacks 12 nodes 10 resistors 2 pads 10 safe 1 unsafe 0 open 1 unlimited ";
-    let files = ends(&rt, TIGHT_BIAS, ("", 0), 1, line)?;
-    assert!(rt; files.bytes("rep").is_some());
+fn a_fault_of_each_output(rt: HostRuntime) -> Result<(), Fail> {
+    let whole = ends(&rt, &small(), 0, BUILT)?;
+    for call in [1, 2] {
+        stops_at(&rt, &whole, 0, call, b"pdn: WriteFault out\n")?;
+        stops_at(&rt, &whole, 1, call, b"pdn: WriteFault net\n")?;
+        stops_at(&rt, &whole, 2, call, b"pdn: WriteFault cert\n")?;
+        stops_at(&rt, &whole, 3, call, b"pdn: WriteFault rep\n")?;
+    }
     Ok(())
 }
 
-/// The second file cannot be read: nothing is made.
+/// The line cannot be written: all outputs are whole.
 #[test]
-fn second_file_unreadable(rt: HostRuntime) -> Result<(), Fail> {
-    let files = ends(&rt, BIAS, ("cells", 1), 3, b"pdn: ReadFault cells\n")?;
-    assert!(rt; files.bytes("out").is_none());
-    Ok(())
-}
-
-/// The netlist is made, and its text not written: the DEF is whole, and nothing comes after the netlist.
-#[test]
-fn netlist_half_written(rt: HostRuntime) -> Result<(), Fail> {
-    let files = ends(&rt, BIAS, ("net", 2), 3, b"pdn: WriteFault net\n")?;
-    assert!(rt; files.bytes("out").is_some());
-    assert!(rt; files.bytes("net") == Some(b"".as_slice()));
-    assert!(rt; files.bytes("cert").is_none());
-    assert!(rt; files.bytes("rep").is_none());
+fn a_fault_of_the_line(rt: HostRuntime) -> Result<(), Fail> {
+    let inputs = Run {
+        failing_write: 1,
+        ..small()
+    };
+    let files = ends(&rt, &inputs, 3, b"")?;
+    are_those(&rt, &files, NETLIST, REPORT);
+    assert!(rt; files.bytes("cert").is_some(), "the certificate");
     Ok(())
 }

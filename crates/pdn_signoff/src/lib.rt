@@ -19,6 +19,8 @@ pub use design_files::DesignFiles;
 #[cfg(test)]
 mod build_tests;
 #[cfg(test)]
+mod build_texts;
+#[cfg(test)]
 mod generate_tests;
 #[cfg(test)]
 mod solve_tests;

@@ -59,10 +59,11 @@ abbrev pub top : Pattern Sort
 top = Or (Then (word Layer) name) (Or (Then (word ViaRule) name) (Or (Then (word Passed) name)
     (Or (Then (word End) (word Library)) (other (Layer ∷ ViaRule ∷ Passed ∷ End ∷ Semicolon ∷ [])))))
 
--- The first statement of a layer: `TYPE ROUTING ;`, `TYPE CUT ;`, or `TYPE` and the name of another type.
+-- The first statement of a layer: `TYPE ROUTING ;`, `TYPE CUT ;`, or `TYPE` and another type, which is any other word but
+-- `;`, also one in quotes.
 abbrev pub layer_start : Pattern Sort
 layer_start = Then (word LayerType) (Or (Then (one (Routing ∷ Cut ∷ [])) stop)
-    (other (Routing ∷ Cut ∷ Semicolon ∷ Quoted ∷ TextEnd ∷ [])))
+    (other (Routing ∷ Cut ∷ Semicolon ∷ TextEnd ∷ [])))
 
 -- `DIRECTION HORIZONTAL ;`, `DIRECTION VERTICAL ;`.
 abbrev pub direction : Pattern Sort

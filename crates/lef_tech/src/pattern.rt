@@ -58,18 +58,12 @@ const TOP: Rule<'static, Sort> = Or(
     &Or(&RULE_HEAD, &Or(&PASSED_HEAD, &Or(&LIBRARY_END, &TOP_WORD))),
 );
 
-/// `TYPE ROUTING ;`, `TYPE CUT ;`, or `TYPE` and the name of another type.
+/// `TYPE ROUTING ;`, `TYPE CUT ;`, or `TYPE` and another type, which is any other word but `;`.
 const LAYER_START: Rule<'static, Sort> = Then(
     &One(&[Sort::LayerType]),
     &Or(
         &Then(&One(&[Sort::Routing, Sort::Cut]), &STOP),
-        &Other(&[
-            Sort::Routing,
-            Sort::Cut,
-            Sort::Semicolon,
-            Sort::Quoted,
-            Sort::TextEnd,
-        ]),
+        &Other(&[Sort::Routing, Sort::Cut, Sort::Semicolon, Sort::TextEnd]),
     ),
 );
 

@@ -426,7 +426,7 @@ use Where::{CutFirst, CutLast, RuleFirst, RuleLast, Top, WireFirst, WireLast};
 /// What is passed over, and where it stands.
 type Passed = (Where, &'static [u8]);
 
-const PASSED: [Passed; 33] = [
+const PASSED: [Passed; 34] = [
     (Top, b""),
     (Top, b"# LAYER m1\nVERSION 5.8 ;"),
     (Top, b"FOO LAYER m1 END LIBRARY ;"),
@@ -448,6 +448,11 @@ const PASSED: [Passed; 33] = [
         b"LAYER m0 TYPE MASTERSLICE ; DIRECTION x ; END END LIBRARY END m0",
     ),
     (Top, b"LAYER END TYPE OVERLAP ; END END"),
+    // a keyword in quotes is none, and so is another type
+    (
+        Top,
+        b"LAYER m0 TYPE \"ROUTING\" ; DIRECTION x ; END m0 LAYER v0 TYPE \"x\" CUT ; END v0",
+    ),
     (WireFirst, b"PITCH 1 ; OFFSET 0 ; MINWIDTH x ;"),
     (WireFirst, b"SPACING 0.3 RANGE 1 2 ; SPACING ;"),
     (

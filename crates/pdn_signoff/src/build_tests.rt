@@ -78,18 +78,19 @@ fn solved<V: Solver>(
     line: &[u8],
 ) -> Result<MemFiles, AllocError> {
     let alloc = rt.alloc();
-    let failing =
-        vec![in alloc; (Name::new(alloc, inputs.failing.0.as_bytes())?, inputs.failing.1)]?;
+    let failing = vec![in alloc;
+        (
+            Name::new(alloc, inputs.failing.0.as_bytes())?,
+            inputs.failing.1
+        ),
+    ]?;
     let mut files = MemFiles::new(alloc, held(alloc, inputs)?, failing)?;
     let mut out = MemSink::new(alloc, vec![in alloc; inputs.failing_write]?)?;
     let words = argv(alloc, WORDS)?;
     let found = run(alloc, &words, &mut files, &mut out, solver);
     assert_eq!(rt; found, status);
     assert!(rt; out.bytes().starts_with(line), "the line");
-    assert!(rt;
-        files.bytes("def") == Some(inputs.def),
-        "the design stays"
-    );
+    assert!(rt; files.bytes("def") == Some(inputs.def), "the design stays");
     Ok(files)
 }
 
@@ -120,12 +121,7 @@ fn refused(
 }
 
 /// What the small design's DEF, netlist and report are.
-fn are_those(
-    rt: &(impl Abort + AllocGlobal),
-    files: &MemFiles,
-    netlist: &[u8],
-    report: &[u8],
-) {
+fn are_those(rt: &(impl Abort + AllocGlobal), files: &MemFiles, netlist: &[u8], report: &[u8]) {
     assert!(rt; files.bytes("out") == Some(WRITTEN_DEF), "the DEF");
     assert!(rt; files.bytes("net") == Some(netlist), "the netlist");
     assert!(rt; files.bytes("rep") == Some(report), "the report");
@@ -176,7 +172,9 @@ pad VSS metal4 1 1.4
     let head = b"pdn report 1\nnet VDD 0.002600000000000000000000 UNSAFE\nnet VSS none NOLIMIT\n";
     assert!(rt; files.bytes("out") == Some(WRITTEN_DEF), "the DEF");
     assert!(rt;
-        files.bytes("rep").is_some_and(|text| text.starts_with(head)),
+        files
+            .bytes("rep")
+            .is_some_and(|text| text.starts_with(head)),
         "the verdict"
     );
     Ok(())
@@ -260,7 +258,15 @@ BLOCKAGES 1 ;
     )?;
     def.extend_from_slice(blockage)?;
     def.extend_from_slice(b"END BLOCKAGES\nEND DESIGN\n")?;
-    refused(rt, &Run { def: &def, ..small() }, 7, line)
+    refused(
+        rt,
+        &Run {
+            def: &def,
+            ..small()
+        },
+        7,
+        line,
+    )
 }
 
 /// A strap that a blockage cuts, or whose stack one takes away, leaves a node without supply.

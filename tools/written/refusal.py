@@ -1,0 +1,53 @@
+"""Refusals of an input: one line, `tool: file:line: what`, and status 1."""
+import gc
+import os
+import sys
+
+
+class Refused(Exception):
+    """An input that is not taken: its file, the line (None where no line is at fault), and what is wrong."""
+
+    def __init__(self, path, line, what):
+        super().__init__(f"{path}: {what}" if line is None else f"{path}:{line}: {what}")
+
+
+def read_text(path):
+    """The text of a file. Bytes that are no UTF-8 are kept as they are, since a name may have any."""
+    try:
+        with open(path, encoding="utf-8", errors="surrogateescape", newline="") as file:
+            return file.read()
+    except OSError as fault:
+        raise Refused(path, None, f"cannot be read: {fault.strerror}") from None
+
+
+def write_text(path, text):
+    """Writes a file whole."""
+    try:
+        with open(path, "w", encoding="utf-8", errors="surrogateescape", newline="") as file:
+            file.write(text)
+    except OSError as fault:
+        raise Refused(path, None, f"cannot be written: {fault.strerror}") from None
+
+
+def say(message):
+    """One line to standard error, with the tool's name."""
+    print(f"{os.path.basename(sys.argv[0])}: {message}", file=sys.stderr)
+
+
+def run(main):
+    """Ends the process with the status of main, and with 1 and one line where an input is refused."""
+    # what is read is held to the end, so there is nothing to collect, and to look for it takes a fifth of the time
+    gc.disable()
+    sys.stdout.reconfigure(errors="surrogateescape")
+    sys.stderr.reconfigure(errors="surrogateescape")
+    try:
+        status = main()
+        sys.stdout.flush()
+    except Refused as why:
+        say(why)
+        status = 1
+    except BrokenPipeError:
+        # who reads has seen enough, as `head` does
+        os.dup2(os.open(os.devnull, os.O_WRONLY), sys.stdout.fileno())
+        status = 0
+    sys.exit(status)

@@ -1,0 +1,118 @@
+"""The report of `pdn build` and `pdn solve`, read in exactly the form in which it is written."""
+import re
+from collections import Counter
+from typing import NamedTuple, Optional
+
+from .refusal import Refused, read_text
+from .units import whole
+
+HEAD = "pdn report 1"
+VERDICTS = ("SAFE", "UNSAFE", "OPEN", "NOLIMIT")
+_VERDICT = "|".join(VERDICTS)
+_NINE = r"(-?[0-9]+\.[0-9]{9})"
+_NAME = r"([^ \t\r]+)"
+_NET = re.compile(rf"net {_NAME} (none|[0-9]+\.[0-9]{{24}}) ({_VERDICT})")
+_NODE = re.compile(rf"node {_NAME} {_NINE} {_NINE}")
+_BRANCH = re.compile(rf"branch R([1-9][0-9]*) {_NAME} {_NAME} {_NINE} {_NINE} (none|[0-9]+\.[0-9]{{15}}) ({_VERDICT})")
+
+
+class Net(NamedTuple):
+    """A net, the limit of its drop in yoctovolts, and the verdict."""
+    name: str
+    limit: Optional[int]
+    verdict: str
+
+
+class Node(NamedTuple):
+    """A node, and between which voltages it stands, in nanovolts."""
+    name: str
+    low: int
+    high: int
+
+
+class Branch(NamedTuple):
+    """A resistor, by the places of its two nodes: between which currents it carries, in nanoamperes, its limit in femtoamperes,
+    and the verdict."""
+    start: int
+    end: int
+    low: int
+    high: int
+    limit: Optional[int]
+    verdict: str
+
+
+class Report:
+    """The nets, nodes and branches of a report, each in the order of its lines."""
+
+    def __init__(self, path):
+        self.path = path
+        self.nets, self.nodes, self.branches = [], [], []
+        self.place = {}
+        lines = whole_lines(path)
+        for number, line in enumerate(lines[1:-1], 2):
+            self._take(number, line)
+
+    def _take(self, number, line):
+        """Takes one line between the first and the last."""
+        if line.startswith("branch ") and (found := _BRANCH.fullmatch(line)):
+            self._take_branch(number, found)
+        elif line.startswith("node ") and not self.branches and (found := _NODE.fullmatch(line)):
+            self._take_node(number, found)
+        elif line.startswith("net ") and not self.nodes and not self.branches and (found := _NET.fullmatch(line)):
+            name, limit, verdict = found.groups()
+            self.nets.append(Net(name, stated(limit), verdict))
+        else:
+            raise Refused(self.path, number, "this is no line of a report here")
+
+    def _take_node(self, number, found):
+        name, low, high = found.groups()
+        node = Node(name, whole(low), whole(high))
+        if name in self.place:
+            raise Refused(self.path, number, f"the node {name} stands twice")
+        if node.low > node.high:
+            raise Refused(self.path, number, "the interval ends below its beginning")
+        self.place[name] = len(self.nodes)
+        self.nodes.append(node)
+
+    def _take_branch(self, number, found):
+        name, start, end, low, high, limit, verdict = found.groups()
+        if int(name) != len(self.branches) + 1:
+            raise Refused(self.path, number, f"the branch R{len(self.branches) + 1} is wanted here")
+        for end_name in (start, end):
+            if end_name not in self.place:
+                raise Refused(self.path, number, f"no line has the node {end_name}")
+        branch = Branch(self.place[start], self.place[end], whole(low), whole(high), stated(limit), verdict)
+        if branch.low > branch.high:
+            raise Refused(self.path, number, "the interval ends below its beginning")
+        self.branches.append(branch)
+
+    def line_of_node(self, node):
+        """On which line a node stands."""
+        return 2 + len(self.nets) + node
+
+    def line_of_branch(self, branch):
+        """On which line a branch stands, by its place from 0."""
+        return 2 + len(self.nets) + len(self.nodes) + branch
+
+    def verdicts(self, rows):
+        """How many of the rows have each verdict, in words."""
+        count = Counter(row.verdict for row in rows)
+        return ", ".join(f"{count[verdict]} {verdict}" for verdict in VERDICTS)
+
+
+def stated(limit):
+    """A limit that may be stated."""
+    return None if limit == "none" else whole(limit)
+
+
+def whole_lines(path):
+    """The lines of a report that has its first and its last one."""
+    lines = read_text(path).split("\n")
+    if lines[0] != HEAD:
+        raise Refused(path, 1, f"this is no report of pdn, which begins with the line '{HEAD}'")
+    if lines[-1] != "":
+        raise Refused(path, len(lines), "the report is cut off within this line")
+    lines.pop()
+    if lines[-1] != "end":
+        raise Refused(path, len(lines), "the report is cut off behind this line: its last line is to be 'end'")
+    return lines

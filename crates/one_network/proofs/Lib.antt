@@ -1,0 +1,5 @@
+pub mod Lists
+pub mod Tapped
+pub mod Refused
+pub mod Whole
+pub mod Limited

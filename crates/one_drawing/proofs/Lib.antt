@@ -1,0 +1,9 @@
+pub mod Listed
+pub mod Ordered
+pub mod Planned
+pub mod Shaped
+pub mod Pieced
+pub mod Stacked
+pub mod Touched
+pub mod Refused
+pub mod Standing

@@ -1,0 +1,10 @@
+pub mod Engine
+pub mod Lines
+pub mod Cards
+pub mod Values
+pub mod Taken
+pub mod Text
+pub mod Parts
+pub mod Network
+pub mod Sums
+pub mod Whole

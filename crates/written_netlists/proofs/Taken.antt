@@ -1,0 +1,412 @@
+-- The units of written cards are whole and show no fault, and what cards they are.
+use Rattle.std.proofs.Common.{◌≡◌, ℕ, ◌+◌, ◌<◌, ◌≤◌, ◌==◌, ◌||◌, Bool, true, false, ℤ, List, [], ◌∷◌, ◌++◌, length, map, codes, Ok, refl, sym, ◌∙◌, ap, subst, append_assoc, arith, inl, inr, ◌⊎◌}
+use Rattle.std.specs.Prelude.{Option, None, Some, Result, if◌then◌else◌, int_lt, ◌≤ℤ◌, filter_map}
+use Rattle.std.specs.List.{cons_option}
+use Rattle.std.proofs.lemmas.List.{append-nil}
+use Rattle.reading.specs.declared.word.Form.TheVariants.{Bare, Break}
+use Rattle.reading.specs.declared.word.Form.TheVariants.{End as EndForm}
+use Rattle.std.specs.List.{AllByRecursion}
+use Rattle.std.specs.Str.{bytes_eq}
+use Rattle.std.proofs.lemmas.Bool.{le-ltb}
+use Rattle.number_place.specs.declared.place.NumberPlace.{NumberPlace}
+use Rattle.number_place.specs.declared.place.Refused.{Refused}
+use Rattle.number_place.specs.Place.{IsNumberAt}
+use Rattle.netlist_words.specs.declared.letter.Letter.{Letter}
+use Rattle.netlist_words.specs.declared.letter.Letter.TheVariants as letters
+use Rattle.netlist_words.specs.Letter.{letter_of}
+use Rattle.netlist_words.specs.Text.{card_end}
+use Rattle.reading.specs.declared.refusal.Found.{Found}
+use Rattle.reading.specs.Keyword.{keyword_or}
+use Rattle.reading.specs.Pattern.{Pattern, One, Then, Or, Matches, joined}
+use Rattle.reading.specs.Reading.{IsFine}
+use Rattle.reading.specs.Grammar.{IsTaken}
+use Rattle.reading.specs.Taken.{AreTaken}
+use Rattle.reading.specs.Word.{Token, end_at, end_after}
+use Rattle.spice_cards.specs.declared.error.CardsKind.{CardsKind}
+use Rattle.spice_cards.specs.declared.section.Section.{Section}
+use Rattle.spice_cards.specs.declared.section.Section.TheVariants.{Cards, Passing, Ended}
+use Rattle.spice_cards.specs.declared.sort.Sort.{Sort}
+use Rattle.spice_cards.specs.declared.sort.Sort.TheVariants.{Resistor, Source, Load, Dc, Mark, Dot, End, Other, CardEnd, Range, Stray, TextEnd}
+use Rattle.spice_cards.specs.Sort.{the, keywords, sort_of_letter, sort_of_text, sort_with, sort_of}
+use Rattle.spice_cards.specs.declared.error.CardsKind.TheVariants.{OutOfRange}
+use Rattle.spice_cards.specs.Rule.{is_name, is_number, is_value, name, number, dc, end, load_end, pattern}
+use Rattle.spice_cards.specs.Section.{section_from, section_of, section_after, is_ended}
+use Rattle.spice_cards.specs.Card.{Card, is_ground, without_dc, value_at, source_with, load_with, card_of, cards_of}
+use Rattle.spice_cards.specs.Card as said
+use Rattle.spice_cards.specs.Number.{ohms, volts, amperes}
+use Rattle.spice_cards.specs.Fault.{refused_by, floating_by, source_by, low_by, high_by, AnswerFault, EndFault, SourceFault, LoadFault, is_strange}
+use Rattle.spice_cards.specs.Format.{format}
+use Rattle.written_netlists.proofs.Lines.{IsText}
+use Rattle.written_netlists.proofs.Values.{NumberLaws, IsValue}
+use Rattle.written_netlists.proofs.Cards.{CardText, Ohms, Volts, Amps, AmpsIn, AreTexts, unit, units, past, line_at, word_at, last_units, zero_text}
+
+-- What is asked of a card that is written: its words are words of lines, and its values read back.
+pub record OhmsIs (tail a b value : List ℕ) : Type 0 where
+  pub head : IsText (82 ∷ tail)
+  pub first : IsText a
+  pub second : IsText b
+  pub number : ℤ
+  pub is : IsValue ohms value number
+
+pub record VoltsIs (tail a value : List ℕ) : Type 0 where
+  pub head : IsText (86 ∷ tail)
+  pub first : IsText a
+  pub number : ℤ
+  pub is : IsValue volts value number
+
+pub record AmpsIs (tail a value : List ℕ) : Type 0 where
+  pub head : IsText (73 ∷ tail)
+  pub first : IsText a
+  pub number : ℤ
+  pub is : IsValue amperes value number
+
+pub record RangeIs (value : ℤ) (low high : List ℕ) : Type 0 where
+  pub low_number : ℤ
+  pub high_number : ℤ
+  pub low_is : IsValue amperes low low_number
+  pub high_is : IsValue amperes high high_number
+  pub not_above : int_lt value low_number ≡ false
+  pub not_below : int_lt high_number value ≡ false
+
+abbrev pub IsCard : CardText → Type 0
+IsCard (Ohms tail a b value) = OhmsIs tail a b value
+IsCard (Volts tail a value) = VoltsIs tail a value
+IsCard (Amps tail a value) = AmpsIs tail a value
+IsCard (AmpsIn tail a value low high) = (c : AmpsIs tail a value) × RangeIs c.number low high
+
+zero_is : IsText zero_text
+zero_is = record { some = omega arith; plain = refl }
+
+range_is : IsText (codes "*range")
+range_is = record { some = omega arith; plain = refl }
+
+texts_are : (card : CardText) → IsCard card → AreTexts card
+texts_are (Ohms tail a b value) c = (c.head, (c.first, (c.second, (c.is.word, tt))))
+texts_are (Volts tail a value) c = (c.head, (c.first, (zero_is, (c.is.word, tt))))
+texts_are (Amps tail a value) c = (c.head, (c.first, (zero_is, (c.is.word, tt))))
+texts_are (AmpsIn tail a value low high) c = (
+  (c.0.head, (c.0.first, (zero_is, (c.0.is.word, tt)))),
+  (range_is, (c.1.low_is.word, (c.1.high_is.word, tt))),
+)
+
+pub all_texts : (cards : List CardText) → AllByRecursion IsCard cards → AllByRecursion AreTexts cards
+all_texts [] h = tt
+all_texts (card ∷ cards) h = (texts_are card h.0, all_texts cards h.1)
+
+-- ## sorts
+
+keyword_by : (P : Sort → Type 0) (is : Bool) (one two : Sort) → P one → P two → P (if is then one else two)
+keyword_by P true one two p q = p
+keyword_by P false one two p q = q
+
+keyword_is : (P : Sort → Type 0) (words : List (List ℕ × Sort)) (none : Sort) (text : List ℕ) → AllByRecursion (λ k. P k.1) words → P none →
+    P (keyword_or words none text)
+keyword_is P [] none text h p = p
+keyword_is P (k ∷ words) none text h p =
+    keyword_by P (bytes_eq text k.0) k.1 (keyword_or words none text) h.0 (keyword_is P words none text h.1 p)
+
+letter_name : (letter : Letter) → is_name (sort_of_letter letter) ≡ true
+letter_name letters.Resistor = refl
+letter_name letters.Source = refl
+letter_name letters.Load = refl
+letter_name letters.Other = refl
+
+-- Each word of a line may be a name.
+name_sort : (text : List ℕ) → is_name (sort_of_text text) ≡ true
+name_sort text =
+    keyword_is (λ s. is_name s ≡ true) keywords (sort_of_letter (letter_of text)) text
+    (refl, (refl, (refl, (refl, (refl, (refl, (refl, (refl, (refl, (refl, (refl, (refl, tt)))))))))))) (letter_name (letter_of text))
+
+number_sort : (text : List ℕ) → sort_of_text text ≡ Other → is_number (sort_of_text text) ≡ true
+number_sort text e = ap is_number e
+
+value_sort : (text : List ℕ) → sort_of_text text ≡ Other → is_value (sort_of_text text) ≡ true
+value_sort text e = ap is_value e
+
+-- ## patterns
+
+two_match : (p q : Sort → Bool) (a b : Token) → p (sort_of a) ≡ true → q (sort_of b) ≡ true → Matches sort_of (Then (One p) (One q)) (a ∷ b ∷ [])
+two_match p q a b x y = (a ∷ [], b ∷ [], (a, x, refl), (b, y, refl), refl)
+
+more_match : (p : Sort → Bool) (q : Pattern Sort) (a : Token) (words : List Token) → p (sort_of a) ≡ true → Matches sort_of q words → Matches sort_of (Then (One p) q) (a ∷ words)
+more_match p q a words x m = (a ∷ [], words, (a, x, refl), m, refl)
+
+-- ## faults
+
+none_fault : (by : Result ℤ Refused → Option CardsKind) (value : ℤ) (answer : Result ℤ Refused) (kind : CardsKind) → by (Ok value) ≡ None → Ok value ≡ answer → by answer ≡ Some kind → ⊥
+none_fault by value answer kind n e s = let t : None ≡ Some kind = sym n ∙ ap by e ∙ s in cc
+
+no_answer : NumberLaws → (place : NumberPlace) (by : Result ℤ Refused → Option CardsKind) (text : List ℕ) (value : ℤ) (kind : CardsKind) → IsValue place text value →
+    by (Ok value) ≡ None → AnswerFault place by text kind → ⊥
+no_answer laws place by text value kind is n f = none_fault by value f.0 kind n (laws.one place text (Ok value) f.0 is.number f.1) f.2
+
+no_end : NumberLaws → (by : Result ℤ Refused → Result ℤ Refused → Option CardsKind) (value text : List ℕ) (v z : ℤ) (kind : CardsKind) → IsValue amperes value v → IsValue amperes text z →
+    by (Ok v) (Ok z) ≡ None → EndFault by value text kind → ⊥
+no_end laws by value text v z kind is end n f =
+    none_fault (by f.0) z f.1 kind (ap (λ (r : Result ℤ Refused). by r (Ok z)) (sym (laws.one amperes value (Ok v) f.0 is.number f.2)) ∙ n) (laws.one amperes text (Ok z) f.1 end.number f.3) f.4
+
+grounded : (x : Bool) (z : ℤ) → (if x || true then refused_by (Ok z) else floating_by (Ok z)) ≡ None
+grounded true z = refl
+grounded false z = refl
+
+false_true : false ≡ true → ⊥
+false_true h = cc
+
+-- ## units
+
+-- Without `DC` before it the value stands behind the nodes.
+dc_gone : (P : ℕ → List Token → Type 0) (v : Token) (words : List Token) → sort_of v ≡ Other → P (value_at (v ∷ words)) (without_dc (v ∷ words)) → P 3 (v ∷ words)
+dc_gone P v words e p = subst (λ s. P (if the Dc s then 4 else 3) (if the Dc s then words else (v ∷ words))) e p
+
+abbrev bare : ℕ → ℕ → List ℕ → Token
+bare n word text = record { text = text; place = record { line = n; word = word }; form = Bare }
+
+module _ (laws : NumberLaws) (before : List (List Token)) (here : section_of before ≡ Cards) where
+  in_cards : (words : List Token) → Matches sort_of (pattern Cards) words → Matches sort_of (pattern (section_of before)) words
+  in_cards words m = subst (λ z. Matches sort_of (pattern z) words) (sym here) m
+
+  ohms_taken : (n : ℕ) (tail a b value : List ℕ) → OhmsIs tail a b value → IsTaken format before (unit n (Ohms tail a b value))
+  ohms_taken n tail a b value c = record {
+    matches = in_cards (unit n (Ohms tail a b value))
+        (inl (more_match (the Resistor) (Then name (Then name (Then number end))) (bare n 1 (82 ∷ tail)) (bare n 2 a ∷ bare n 3 b ∷ bare n 4 value ∷ card_end (line_at (n + 1)) ∷ []) refl
+        (more_match is_name (Then name (Then number end)) (bare n 2 a) (bare n 3 b ∷ bare n 4 value ∷ card_end (line_at (n + 1)) ∷ []) (name_sort a)
+        (more_match is_name (Then number end) (bare n 3 b) (bare n 4 value ∷ card_end (line_at (n + 1)) ∷ []) (name_sort b)
+        (two_match is_number (the CardEnd) (bare n 4 value) (card_end (line_at (n + 1))) (number_sort value c.is.sort) refl)))));
+    fine = (
+      λ f k. false_true k.1.1,
+      (λ f k. k, (λ f k. k, (λ f k. no_answer laws ohms refused_by value c.number f.kind c.is refl k.1, (λ f k. k, tt)))),
+    );
+  }
+
+  volts_taken : (n : ℕ) (tail a value : List ℕ) → VoltsIs tail a value → IsTaken format before (unit n (Volts tail a value))
+  volts_taken n tail a value c =
+      let v = bare n 4 value in
+      let stop = card_end (line_at (n + 1)) in
+      record {
+        matches = in_cards (unit n (Volts tail a value))
+            (inr (inl (more_match (the Source) (Then name (Then name (Or (Then (One is_value) end) (Then dc (Then number end))))) (bare n 1 (86 ∷ tail)) (bare n 2 a ∷ bare n 3 zero_text ∷ v ∷ stop ∷ []) refl
+            (more_match is_name (Then name (Or (Then (One is_value) end) (Then dc (Then number end)))) (bare n 2 a) (bare n 3 zero_text ∷ v ∷ stop ∷ []) (name_sort a)
+            (more_match is_name (Or (Then (One is_value) end) (Then dc (Then number end))) (bare n 3 zero_text) (v ∷ stop ∷ []) refl
+            (inl (two_match is_value (the CardEnd) v stop (value_sort value c.is.sort) refl)))))));
+        fine = (
+          λ f k. false_true k.1.1,
+          (
+            λ f k. k,
+            (
+              λ f k. k,
+              (
+                λ f k. no_answer laws volts (source_by a zero_text) value c.number f.kind c.is (grounded (is_ground a) c.number)
+                    (dc_gone (λ at words. SourceFault a zero_text at words f) v [] c.is.sort k).1,
+                (λ f k. dc_gone (λ at words. SourceFault a zero_text at words f) v (stop ∷ []) c.is.sort k, tt),
+              ),
+            ),
+          ),
+        );
+      }
+
+  amps_taken : (n : ℕ) (tail a value : List ℕ) → AmpsIs tail a value → IsTaken format before (unit n (Amps tail a value))
+  amps_taken n tail a value c =
+      let v = bare n 4 value in
+      let stop = card_end (line_at (n + 1)) in
+      record {
+        matches = in_cards (unit n (Amps tail a value))
+            (inr (inr (inl (more_match (the Load) (Then name (Then name (Or (Then (One is_value) load_end) (Then dc (Then number load_end))))) (bare n 1 (73 ∷ tail)) (bare n 2 a ∷ bare n 3 zero_text ∷ v ∷ stop ∷ []) refl
+            (more_match is_name (Then name (Or (Then (One is_value) load_end) (Then dc (Then number load_end)))) (bare n 2 a) (bare n 3 zero_text ∷ v ∷ stop ∷ []) (name_sort a)
+            (more_match is_name (Or (Then (One is_value) load_end) (Then dc (Then number load_end))) (bare n 3 zero_text) (v ∷ stop ∷ []) refl
+            (inl (more_match is_value load_end v (stop ∷ []) (value_sort value c.is.sort) (inl (stop, refl, refl))))))))));
+        fine = (
+          λ f k. false_true k.1.1,
+          (
+            λ f k. k,
+            (
+              λ f k. k,
+              (
+                λ f k. no_answer laws amperes refused_by value c.number f.kind c.is refl (dc_gone (λ at words. LoadFault at words f) v [] c.is.sort k).1,
+                (λ f k. dc_gone (λ at words. LoadFault at words f) v (stop ∷ []) c.is.sort k, tt),
+              ),
+            ),
+          ),
+        );
+      }
+
+  low_none : (v l : ℤ) → int_lt v l ≡ false → low_by (Ok v) (Ok l) ≡ None
+  low_none v l e = ap (λ z. if z then Some OutOfRange else None) e
+
+  range_taken : (n : ℕ) (tail a value low high : List ℕ) (c : AmpsIs tail a value) → RangeIs c.number low high →
+      IsTaken format before (unit n (AmpsIn tail a value low high))
+  range_taken n tail a value low high c r =
+      let v = bare n 4 value in
+      let star : Token = record { text = codes "*range"; place = line_at (n + 1); form = Break } in
+      let l = bare (n + 1) 2 low in
+      let h = bare (n + 1) 3 high in
+      let stop = card_end (record { line = n + 1; word = 4 }) in
+      record {
+        matches = in_cards (unit n (AmpsIn tail a value low high))
+            (inr (inr (inl (more_match (the Load) (Then name (Then name (Or (Then (One is_value) load_end) (Then dc (Then number load_end))))) (bare n 1 (73 ∷ tail)) (bare n 2 a ∷ bare n 3 zero_text ∷ v ∷ star ∷ l ∷ h ∷ stop ∷ []) refl
+            (more_match is_name (Then name (Or (Then (One is_value) load_end) (Then dc (Then number load_end)))) (bare n 2 a) (bare n 3 zero_text ∷ v ∷ star ∷ l ∷ h ∷ stop ∷ []) (name_sort a)
+            (more_match is_name (Or (Then (One is_value) load_end) (Then dc (Then number load_end))) (bare n 3 zero_text) (v ∷ star ∷ l ∷ h ∷ stop ∷ []) refl
+            (inl (more_match is_value load_end v (star ∷ l ∷ h ∷ stop ∷ []) (value_sort value c.is.sort)
+            (inr (more_match (the Range) (Then number (Then number end)) star (l ∷ h ∷ stop ∷ []) refl
+            (more_match is_number (Then number end) l (h ∷ stop ∷ []) (number_sort low r.low_is.sort)
+            (two_match is_number (the CardEnd) h stop (number_sort high r.high_is.sort) refl))))))))))));
+        fine = (
+          λ f k. false_true k.1.1,
+          (
+            λ f k. k,
+            (
+              λ f k. k,
+              (
+                λ f k. no_answer laws amperes refused_by value c.number f.kind c.is refl (dc_gone (λ at words. LoadFault at words f) v [] c.is.sort k).1,
+                (
+                  λ f k. dc_gone (λ at words. LoadFault at words f) v (star ∷ []) c.is.sort k,
+                  (
+                    λ f k. no_end laws low_by value low c.number r.low_number f.kind c.is r.low_is (low_none c.number r.low_number r.not_above)
+                        (dc_gone (λ at words. LoadFault at words f) v (star ∷ l ∷ []) c.is.sort k).1,
+                    (
+                      λ f k. no_end laws high_by value high c.number r.high_number f.kind c.is r.high_is (low_none r.high_number c.number r.not_below)
+                          (dc_gone (λ at words. LoadFault at words f) v (star ∷ l ∷ h ∷ []) c.is.sort k).1,
+                      (λ f k. dc_gone (λ at words. LoadFault at words f) v (star ∷ l ∷ h ∷ stop ∷ []) c.is.sort k, tt),
+                    ),
+                  ),
+                ),
+              ),
+            ),
+          ),
+        );
+      }
+
+  card_taken : (n : ℕ) (card : CardText) → IsCard card → IsTaken format before (unit n card)
+  card_taken n (Ohms tail a b value) c = ohms_taken n tail a b value c
+  card_taken n (Volts tail a value) c = volts_taken n tail a value c
+  card_taken n (Amps tail a value) c = amps_taken n tail a value c
+  card_taken n (AmpsIn tail a value low high) c = range_taken n tail a value low high c.0 c.1
+
+-- ## sections
+
+section_more : (s : Section) (xs ys : List (List Token)) → section_from s (xs ++ ys) ≡ section_from (section_from s xs) ys
+section_more s [] ys = refl
+section_more s (x ∷ xs) ys = section_more (section_after s x) xs ys
+
+section_next : (before : List (List Token)) (s : Section) (u : List Token) → section_of before ≡ s → section_of (before ++ u ∷ []) ≡ section_after s u
+section_next before s u e = section_more Cards before (u ∷ []) ∙ ap (λ z. section_after z u) e
+
+after_unit : (n : ℕ) (card : CardText) → section_after Cards (unit n card) ≡ Cards
+after_unit n (Ohms tail a b value) = refl
+after_unit n (Volts tail a value) = refl
+after_unit n (Amps tail a value) = refl
+after_unit n (AmpsIn tail a value low high) = refl
+
+unit_some : (n : ℕ) (card : CardText) → 0 < length (unit n card)
+unit_some n (Ohms tail a b value) = omega arith
+unit_some n (Volts tail a value) = omega arith
+unit_some n (Amps tail a value) = omega arith
+unit_some n (AmpsIn tail a value low high) = omega arith
+
+-- All cards, and then the others.
+pub cards_taken : NumberLaws → (cards : List CardText) (n : ℕ) (before rest : List (List Token)) → section_of before ≡ Cards → AllByRecursion IsCard cards →
+    AreTaken format (before ++ units n cards) rest → AreTaken format before (units n cards ++ rest)
+cards_taken laws [] n before rest here h t = subst (λ z. AreTaken format z rest) (append-nil before) t
+cards_taken laws (card ∷ cards) n before rest here h t = (
+  unit_some n card,
+  card_taken laws before here n card h.0,
+  cards_taken laws cards (past n card) (before ++ unit n card ∷ []) rest (section_next before Cards (unit n card) here ∙ after_unit n card) h.1
+      (subst (λ z. AreTaken format z rest) (sym (append_assoc before (unit n card ∷ []) (units (past n card) cards))) t),
+)
+
+pub cards_section : (cards : List CardText) (n : ℕ) (s : Section) → s ≡ Cards → section_from s (units n cards) ≡ Cards
+cards_section [] n s e = e
+cards_section (card ∷ cards) n s e = cards_section cards (past n card) (section_after s (unit n card)) (ap (λ z. section_after z (unit n card)) e ∙ after_unit n card)
+
+-- ## the last units
+
+end_form : (words : List Token) → (end_after words).form ≡ EndForm
+end_form [] = refl
+end_form (w ∷ []) = refl
+end_form (v ∷ w ∷ words) = end_form (w ∷ words)
+
+end_sort : (words : List Token) → sort_of (end_after words) ≡ TextEnd
+end_sort words = ap (λ z. sort_with z (end_after words).text) (end_form words)
+
+single_taken : (before : List (List Token)) (w : Token) (s : Section) → section_of before ≡ s → Matches sort_of (pattern s) (w ∷ []) → is_strange (sort_of w) ≡ false →
+    IsTaken format before (w ∷ [])
+single_taken before w s here m plain = record {
+  matches = subst (λ z. Matches sort_of (pattern z) (w ∷ [])) (sym here) m;
+  fine = (λ f k. false_true (sym plain ∙ k.1.1), tt);
+}
+
+pub last_taken : (n : ℕ) (before : List (List Token)) (words : List Token) → section_of before ≡ Cards → AreTaken format before (last_units n ++ (end_after words ∷ []) ∷ [])
+last_taken n before words here =
+    let op = word_at n (codes ".op") in
+    let stop = card_end (line_at (n + 1)) in
+    let end = word_at (n + 1) (codes ".end") in
+    let one : List (List Token) = before ++ (op ∷ []) ∷ [] in
+    let two : List (List Token) = one ++ (stop ∷ []) ∷ [] in
+    let three : List (List Token) = two ++ (end ∷ []) ∷ [] in
+    let at_one : section_of one ≡ Passing = section_next before Cards (op ∷ []) here in
+    let at_two : section_of two ≡ Cards = section_next one Passing (stop ∷ []) at_one in
+    let at_three : section_of three ≡ Ended = section_next two Cards (end ∷ []) at_two in (
+      omega arith,
+      single_taken before op Cards here (inr (inr (inr (op, refl, refl)))) refl,
+      (
+        omega arith,
+        single_taken one stop Passing at_one (stop, refl, refl) refl,
+        (
+          omega arith,
+          single_taken two end Cards at_two (inr (inr (inr (end, refl, refl)))) refl,
+          (omega arith, single_taken three (end_after words) Ended at_three (end_after words, ap (the TextEnd) (end_sort words), refl) (ap is_strange (end_sort words)), tt),
+        ),
+      ),
+    )
+
+-- ## no front ends the text
+
+abbrev NoneEnds : Section → List (List Token) → Type 0
+NoneEnds s [] = Unit {0}
+NoneEnds s (u ∷ us) = (is_ended s ≡ false) × NoneEnds (section_after s u) us
+
+front_open : (s : Section) (front : List (List Token)) (next : List Token) (back : List (List Token)) → NoneEnds s (front ++ next ∷ back) → is_ended (section_from s front) ≡ false
+front_open s [] next back h = h.0
+front_open s (u ∷ front) next back h = front_open (section_after s u) front next back h.1
+
+none_ends : (cards : List CardText) (n m : ℕ) → NoneEnds Cards (units n cards ++ last_units m)
+none_ends [] n m = (refl, (refl, (refl, tt)))
+none_ends (Ohms tail a b value ∷ cards) n m = (refl, none_ends cards (n + 1) m)
+none_ends (Volts tail a value ∷ cards) n m = (refl, none_ends cards (n + 1) m)
+none_ends (Amps tail a value ∷ cards) n m = (refl, none_ends cards (n + 1) m)
+none_ends (AmpsIn tail a value low high ∷ cards) n m = (refl, none_ends cards (n + 1 + 1) m)
+
+pub fronts_open : (cards : List CardText) (n m : ℕ) (front : List (List Token)) (next : List Token) (back : List (List Token)) →
+    units n cards ++ last_units m ≡ front ++ next ∷ back → is_ended (section_of front) ≡ false
+fronts_open cards n m front next back e = front_open Cards front next back (subst (NoneEnds Cards) e (none_ends cards n m))
+
+pub whole_ends : (cards : List CardText) (n m : ℕ) → is_ended (section_of (units n cards ++ last_units m)) ≡ true
+whole_ends cards n m =
+    ap is_ended (section_more Cards (units n cards) (last_units m) ∙ ap (λ z. section_from z (last_units m)) (cards_section cards n Cards refl))
+
+-- ## what cards the units are
+
+abbrev pub said_card : CardText → Card
+said_card (Ohms tail a b value) = said.Resistor a b value
+said_card (Volts tail a value) = said.Source a zero_text value
+said_card (Amps tail a value) = said.Load a zero_text value None
+said_card (AmpsIn tail a value low high) = said.Load a zero_text value (Some (record { low = low; high = high }))
+
+card_is : (n : ℕ) (card : CardText) → IsCard card → card_of (unit n card) ≡ Some (said_card card)
+card_is n (Ohms tail a b value) c = refl
+card_is n (Volts tail a value) c =
+    ap (λ s. source_with a zero_text (if the Dc s then (card_end (line_at (n + 1)) ∷ []) else (bare n 4 value ∷ card_end (line_at (n + 1)) ∷ []))) c.is.sort
+card_is n (Amps tail a value) c =
+    ap (λ s. load_with a zero_text (if the Dc s then (card_end (line_at (n + 1)) ∷ []) else (bare n 4 value ∷ card_end (line_at (n + 1)) ∷ []))) c.is.sort
+card_is n (AmpsIn tail a value low high) c =
+    let star : Token = record { text = codes "*range"; place = line_at (n + 1); form = Break } in
+    let rest : List Token = star ∷ bare (n + 1) 2 low ∷ bare (n + 1) 3 high ∷ card_end (record { line = n + 1; word = 4 }) ∷ [] in
+    ap (λ s. load_with a zero_text (if the Dc s then rest else (bare n 4 value ∷ rest))) c.0.is.sort
+
+pub cards_are : (cards : List CardText) (n : ℕ) (more : List (List Token)) → AllByRecursion IsCard cards → cards_of (units n cards ++ more) ≡ map said_card cards ++ cards_of more
+cards_are [] n more h = refl
+cards_are (card ∷ cards) n more h =
+    ap (λ z. cons_option z (filter_map card_of (units (past n card) cards ++ more))) (card_is n card h.0)
+    ∙ ap (λ z. said_card card ∷ z) (cards_are cards (past n card) more h.1)
+
+pub last_cards : (n : ℕ) (words : List Token) → cards_of (last_units n ++ (end_after words ∷ []) ∷ []) ≡ []
+last_cards n words = refl

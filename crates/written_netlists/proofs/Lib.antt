@@ -6,5 +6,6 @@ pub mod Taken
 pub mod Text
 pub mod Parts
 pub mod Network
+pub mod Alone
 pub mod Sums
 pub mod Whole

@@ -28,6 +28,7 @@ use Rattle.grid_net.specs.Network.{Network, load_range, load_size, over_nodes, t
 use Rattle.spice_grid.specs.Named.{ground, ground_pads}
 use Rattle.spice_grid.specs.Written.{draws, drawing_loads}
 use Rattle.written_netlists.specs.Fits.{IsNodeName}
+use Rattle.written_netlists.proofs.Alone.{in_range, alone}
 use Rattle.written_netlists.proofs.Parts.{entry}
 
 abbrev no_load : LoadRange
@@ -147,35 +148,6 @@ given_small net built =
 
 -- ## pads
 
-in_range : (n : ℕ) (i : ℕ) → i < n → slice_index (range_with_len 0 n) i ≡ i
-in_range n i l = get_or-range_with_len 0 n i 0 l ∙ (let e : 0 + i ≡ i = omega arith in e)
-
-no_short : (i j : ℕ) → IsShorted [] i j → ⊥
-no_short i j (inl s) = let l = s.1 in omega arith
-no_short i j (inr s) = let l = s.1 in omega arith
-
-one_node : (k i j : ℕ) → IsChain [] k i j → i ≡ j
-one_node zero i j e = e
-one_node (suc k) i j chain = absurd (no_short i chain.0 chain.1)
-
--- Without shorts each node is its own group.
-alone : (n : ℕ) → AreGroups n [] (range_with_len 0 n) (range_with_len 0 n)
-alone n =
-    let all : List ℕ = range_with_len 0 n in
-    let count = length-range_with_len 0 n in
-    record {
-      one_a_node = count;
-      joined = λ i j l m. (
-        (λ e. (0, sym (in_range n i l) ∙ e ∙ in_range n j m)),
-        (λ way. in_range n i l ∙ one_node way.0 i j way.1 ∙ sym (in_range n j m)),
-      );
-      each_group = All-from_get_or (λ g. g < length all) all 0 (λ i l. omega (arith, l, count, in_range n i (omega (arith, l, count))));
-      each_first = All-from_get_or (λ g. g < n) all 0 (λ i l. omega (arith, l, count, in_range n i (omega (arith, l, count))));
-      of_its_group = λ g l. (let m : g < n = omega (arith, l, count) in ap (slice_index all) (in_range n g m) ∙ in_range n g m);
-      first = λ i l. (let e = ap (slice_index all) (in_range n i l) ∙ in_range n i l in omega (arith, e));
-      in_order = λ k l. (let m : k + 1 < n = omega (arith, l, count) in omega (arith, in_range n k (omega (arith, m)), in_range n (k + 1) m));
-    }
-
 pads_kept : (n : ℕ) (pads : List Pad) → All (λ p. p.node < n) pads → map (grouped_pad (range_with_len 0 n)) pads ≡ pads
 pads_kept n [] h = refl
 pads_kept n (p ∷ pads) h =
@@ -191,26 +163,6 @@ pads_again law net built =
     ap (λ n. filter_map (pad_of net.pads) (range_with_len 0 n)) (sym (length-range_with_len 0 net.nodes))
     ∙ ap (λ (ps : List Pad). filter_map (pad_of ps) (range_with_len 0 (length all))) (sym (pads_kept net.nodes net.pads built.pads_are_nodes))
     ∙ ap (λ (m : Network). m.pads) (law net all all built (alone net.nodes))
-
--- Two pads of one node are one.
-nodes_at : (pads : List Pad) (i : ℕ) (d : Pad) → i < length pads → get_or (map (λ (p : Pad). p.node) pads) i 0 ≡ (get_or pads i d).node
-nodes_at [] i d l = absurd (omega arith)
-nodes_at (p ∷ pads) zero d l = refl
-nodes_at (p ∷ pads) (suc i) d l = nodes_at pads i d (omega arith)
-
-pub pads_agree : (net : Network) → IsBuilt net → PadsAgree net.pads
-pads_agree net built i d l j g m same =
-    let nodes : List ℕ = map (λ (p : Pad). p.node) net.pads in
-    let count = length-map net.pads (λ (p : Pad). p.node) in
-    let first = nodes_at net.pads i d l in
-    let second = nodes_at net.pads j g m in
-    elim (cases_eq i j) [
-      | inl e ↦ ap (λ (p : Pad). p.volts) (ap (λ k. get_or net.pads k d) e ∙ get_or_default net.pads j d g m)
-      | inr ne ↦ absurd (elim (cases_lt i j) [
-        | inl lt ↦ (let up = rising nodes built.pads_in_order i j lt (omega (arith, m, count)) in omega (arith, up, first, second, same))
-        | inr ge ↦ (let up = rising nodes built.pads_in_order j i (omega arith) (omega (arith, l, count)) in omega (arith, up, first, second, same))
-      ])
-    ]
 
 -- ## ground is no node
 

@@ -32,7 +32,8 @@ use Rattle.written_netlists.proofs.Taken.{IsCard, said_card, cards_are, last_car
 use Rattle.written_netlists.proofs.Text.{WholeCards, title, note_bytes, card_text, first_card, text_units, all_units, text_read}
 use Rattle.written_netlists.proofs.Parts.{resistor_card, pad_card, load_card, IsResistorHere, IsPadHere, IsLoadHere, entry, resistor_is, pad_is, load_is, resistor_says, pad_says, load_says, resistor_nodes, pad_nodes, load_nodes}
 use Rattle.written_netlists.proofs.Network.{each_both, each_map, each_numbered, turn_both, turn_map, map_twice, flat_mapped, resistors_good, pads_good, drawn_good, cards, parts, drawn, resistor_said, pad_said, load_said, resistors_are, shorts_are, pads_are, loads_are, IsNamed, in_one, in_two, flat_named, flat_has, any_numbered}
-use Rattle.written_netlists.proofs.Sums.{NothingShorted, loads_again, pads_again, given_small, pads_agree, no_ground_pad}
+use Rattle.written_netlists.proofs.Alone.{pads_agree}
+use Rattle.written_netlists.proofs.Sums.{NothingShorted, loads_again, pads_again, given_small, no_ground_pad}
 
 -- ## the text
 

@@ -1,13 +1,18 @@
-//! The law, on a function that does nothing.
-ghost use Rattle.std.specs.Prelude.{◌≡◌, List, Ok, Err, ℕ};
+//! The laws, each on a function whose body only recalls laws of the crates below.
+ghost use Rattle.std.specs.Prelude.{◌≡◌, ℕ, List, [], length, Ok, Err};
+ghost use Rattle.grid_net.specs.Limits.{IsBuilt};
 ghost use Rattle.grid_net.specs.Network.{Network};
 ghost use Rattle.grid_net.specs.declared.note.Note.{Note};
+ghost use Rattle.group_net.specs.Merging.{PadsOfGroupsAgree};
+ghost use Rattle.short_merge.specs.Merged.{IsMerged};
+ghost use Rattle.short_merge.specs.declared.merged.Merged.{Merged as Groups};
 ghost use Rattle.spice_grid.specs.Netlist.{ReadsNetlist};
 ghost use Rattle.spice_grid.specs.Written.{written_netlist};
 ghost use Rattle.spice_grid.specs.declared.error.SpiceError.{SpiceError as Error};
 ghost use Rattle.spice_grid.specs.declared.error.SpiceKind.TheVariants.{Want};
 ghost use Rattle.spice_grid.specs.declared.named.Named.{Named as Record};
 ghost use Rattle.written_netlists.specs.Fits.{CanBeWritten, read_back};
+ghost use Rattle.written_netlists.specs.Alone.{unmerged};
 
 use fixed_decimal::{decimals_are_spice_numbers, numbers_are_words, printed_values_read_back};
 use grid_net::no_net_refusal;
@@ -34,4 +39,15 @@ pub fn written_netlists_read_back()
     nothing_shorted();
     texts_have_one_number();
     texts_have_one_netlist();
+}
+
+/// A netlist without shorts is its own network of groups: there is nothing to merge, and no two pads of a group differ.
+pub fn nothing_to_merge()
+    ensures merged { (net : Network) (names : List (List ℕ)) → IsBuilt net → length names ≡ net.nodes →
+        IsMerged (read_back net names) (unmerged net names) }
+    ensures alone { (net : Network) (names : List (List ℕ)) (merged : Groups) → IsBuilt net → length names ≡ net.nodes →
+        IsMerged (read_back net names) merged → merged ≡ unmerged net names }
+    ensures agree { (net : Network) → IsBuilt net → PadsOfGroupsAgree net [] }
+{
+    nothing_shorted();
 }

@@ -7,4 +7,4 @@
 
 mod laws;
 
-pub use laws::written_netlists_read_back;
+pub use laws::{nothing_to_merge, written_netlists_read_back};

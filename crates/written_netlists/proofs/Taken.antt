@@ -23,11 +23,7 @@ use Rattle.reading.specs.Grammar.{IsTaken}
 use Rattle.reading.specs.Taken.{AreTaken}
 use Rattle.reading.specs.Word.{Token, end_at, end_after}
 use Rattle.spice_cards.specs.declared.error.CardsKind.{CardsKind}
-use Rattle.spice_cards.specs.declared.section.Section.{Section}
-use Rattle.spice_cards.specs.declared.section.Section.TheVariants.{Cards, Passing, Ended}
-use Rattle.spice_cards.specs.declared.sort.Sort.{Sort}
-use Rattle.spice_cards.specs.declared.sort.Sort.TheVariants.{Resistor, Source, Load, Dc, Mark, Dot, End, Other, CardEnd, Range, Stray, TextEnd}
-use Rattle.spice_cards.specs.Sort.{the, keywords, sort_of_letter, sort_of_text, sort_with, sort_of}
+use Rattle.spice_cards.specs.Sort.{the, keywords, sort_of_letter, sort_of_text, sort_of_end, sort_with, sort_of}
 use Rattle.spice_cards.specs.declared.error.CardsKind.TheVariants.{OutOfRange}
 use Rattle.spice_cards.specs.Rule.{is_name, is_number, is_value, name, number, dc, end, load_end, pattern}
 use Rattle.spice_cards.specs.Section.{section_from, section_of, section_after, is_ended}
@@ -95,11 +91,11 @@ all_texts (card ∷ cards) h = (texts_are card h.0, all_texts cards h.1)
 
 -- ## sorts
 
-keyword_by : (P : Sort → Type 0) (is : Bool) (one two : Sort) → P one → P two → P (if is then one else two)
+keyword_by : {S : Type 0} (P : S → Type 0) (is : Bool) (one two : S) → P one → P two → P (if is then one else two)
 keyword_by P true one two p q = p
 keyword_by P false one two p q = q
 
-keyword_is : (P : Sort → Type 0) (words : List (List ℕ × Sort)) (none : Sort) (text : List ℕ) → AllByRecursion (λ k. P k.1) words → P none →
+keyword_is : {S : Type 0} (P : S → Type 0) (words : List (List ℕ × S)) (none : S) (text : List ℕ) → AllByRecursion (λ k. P k.1) words → P none →
     P (keyword_or words none text)
 keyword_is P [] none text h p = p
 keyword_is P (k ∷ words) none text h p =
@@ -117,19 +113,19 @@ name_sort text =
     keyword_is (λ s. is_name s ≡ true) keywords (sort_of_letter (letter_of text)) text
     (refl, (refl, (refl, (refl, (refl, (refl, (refl, (refl, (refl, (refl, (refl, (refl, tt)))))))))))) (letter_name (letter_of text))
 
-number_sort : (text : List ℕ) → sort_of_text text ≡ Other → is_number (sort_of_text text) ≡ true
+number_sort : (text : List ℕ) → sort_of_text text ≡ sort_of_text (codes "0") → is_number (sort_of_text text) ≡ true
 number_sort text e = ap is_number e
 
-value_sort : (text : List ℕ) → sort_of_text text ≡ Other → is_value (sort_of_text text) ≡ true
+value_sort : (text : List ℕ) → sort_of_text text ≡ sort_of_text (codes "0") → is_value (sort_of_text text) ≡ true
 value_sort text e = ap is_value e
 
 -- ## patterns
 
-two_match : (p q : Sort → Bool) (a b : Token) → p (sort_of a) ≡ true → q (sort_of b) ≡ true → Matches sort_of (Then (One p) (One q)) (a ∷ b ∷ [])
-two_match p q a b x y = (a ∷ [], b ∷ [], (a, x, refl), (b, y, refl), refl)
+two_match : {S : Type 0} (sort : Token → S) (p q : S → Bool) (a b : Token) → p (sort a) ≡ true → q (sort b) ≡ true → Matches sort (Then (One p) (One q)) (a ∷ b ∷ [])
+two_match sort p q a b x y = (a ∷ [], b ∷ [], (a, x, refl), (b, y, refl), refl)
 
-more_match : (p : Sort → Bool) (q : Pattern Sort) (a : Token) (words : List Token) → p (sort_of a) ≡ true → Matches sort_of q words → Matches sort_of (Then (One p) q) (a ∷ words)
-more_match p q a words x m = (a ∷ [], words, (a, x, refl), m, refl)
+more_match : {S : Type 0} (sort : Token → S) (p : S → Bool) (q : Pattern S) (a : Token) (words : List Token) → p (sort a) ≡ true → Matches sort q words → Matches sort (Then (One p) q) (a ∷ words)
+more_match sort p q a words x m = (a ∷ [], words, (a, x, refl), m, refl)
 
 -- ## faults
 
@@ -155,23 +151,23 @@ false_true h = cc
 -- ## units
 
 -- Without `DC` before it the value stands behind the nodes.
-dc_gone : (P : ℕ → List Token → Type 0) (v : Token) (words : List Token) → sort_of v ≡ Other → P (value_at (v ∷ words)) (without_dc (v ∷ words)) → P 3 (v ∷ words)
-dc_gone P v words e p = subst (λ s. P (if the Dc s then 4 else 3) (if the Dc s then words else (v ∷ words))) e p
+dc_gone : (P : ℕ → List Token → Type 0) (v : Token) (words : List Token) → sort_of v ≡ sort_of_text (codes "0") → P (value_at (v ∷ words)) (without_dc (v ∷ words)) → P 3 (v ∷ words)
+dc_gone P v words e p = subst (λ s. P (if the (sort_of_text (codes "DC")) s then 4 else 3) (if the (sort_of_text (codes "DC")) s then words else (v ∷ words))) e p
 
 abbrev bare : ℕ → ℕ → List ℕ → Token
 bare n word text = record { text = text; place = record { line = n; word = word }; form = Bare }
 
-module _ (laws : NumberLaws) (before : List (List Token)) (here : section_of before ≡ Cards) where
-  in_cards : (words : List Token) → Matches sort_of (pattern Cards) words → Matches sort_of (pattern (section_of before)) words
+module _ (laws : NumberLaws) (before : List (List Token)) (here : section_of before ≡ section_of []) where
+  in_cards : (words : List Token) → Matches sort_of (pattern (section_of [])) words → Matches sort_of (pattern (section_of before)) words
   in_cards words m = subst (λ z. Matches sort_of (pattern z) words) (sym here) m
 
   ohms_taken : (n : ℕ) (tail a b value : List ℕ) → OhmsIs tail a b value → IsTaken format before (unit n (Ohms tail a b value))
   ohms_taken n tail a b value c = record {
     matches = in_cards (unit n (Ohms tail a b value))
-        (inl (more_match (the Resistor) (Then name (Then name (Then number end))) (bare n 1 (82 ∷ tail)) (bare n 2 a ∷ bare n 3 b ∷ bare n 4 value ∷ card_end (line_at (n + 1)) ∷ []) refl
-        (more_match is_name (Then name (Then number end)) (bare n 2 a) (bare n 3 b ∷ bare n 4 value ∷ card_end (line_at (n + 1)) ∷ []) (name_sort a)
-        (more_match is_name (Then number end) (bare n 3 b) (bare n 4 value ∷ card_end (line_at (n + 1)) ∷ []) (name_sort b)
-        (two_match is_number (the CardEnd) (bare n 4 value) (card_end (line_at (n + 1))) (number_sort value c.is.sort) refl)))));
+        (inl (more_match sort_of (the (sort_of_text (codes "R"))) (Then name (Then name (Then number end))) (bare n 1 (82 ∷ tail)) (bare n 2 a ∷ bare n 3 b ∷ bare n 4 value ∷ card_end (line_at (n + 1)) ∷ []) refl
+        (more_match sort_of is_name (Then name (Then number end)) (bare n 2 a) (bare n 3 b ∷ bare n 4 value ∷ card_end (line_at (n + 1)) ∷ []) (name_sort a)
+        (more_match sort_of is_name (Then number end) (bare n 3 b) (bare n 4 value ∷ card_end (line_at (n + 1)) ∷ []) (name_sort b)
+        (two_match sort_of is_number (the (sort_of_end [])) (bare n 4 value) (card_end (line_at (n + 1))) (number_sort value c.is.sort) refl)))));
     fine = (
       λ f k. false_true k.1.1,
       (λ f k. k, (λ f k. k, (λ f k. no_answer laws ohms refused_by value c.number f.kind c.is refl k.1, (λ f k. k, tt)))),
@@ -184,10 +180,10 @@ module _ (laws : NumberLaws) (before : List (List Token)) (here : section_of bef
       let stop = card_end (line_at (n + 1)) in
       record {
         matches = in_cards (unit n (Volts tail a value))
-            (inr (inl (more_match (the Source) (Then name (Then name (Or (Then (One is_value) end) (Then dc (Then number end))))) (bare n 1 (86 ∷ tail)) (bare n 2 a ∷ bare n 3 zero_text ∷ v ∷ stop ∷ []) refl
-            (more_match is_name (Then name (Or (Then (One is_value) end) (Then dc (Then number end)))) (bare n 2 a) (bare n 3 zero_text ∷ v ∷ stop ∷ []) (name_sort a)
-            (more_match is_name (Or (Then (One is_value) end) (Then dc (Then number end))) (bare n 3 zero_text) (v ∷ stop ∷ []) refl
-            (inl (two_match is_value (the CardEnd) v stop (value_sort value c.is.sort) refl)))))));
+            (inr (inl (more_match sort_of (the (sort_of_text (codes "V"))) (Then name (Then name (Or (Then (One is_value) end) (Then dc (Then number end))))) (bare n 1 (86 ∷ tail)) (bare n 2 a ∷ bare n 3 zero_text ∷ v ∷ stop ∷ []) refl
+            (more_match sort_of is_name (Then name (Or (Then (One is_value) end) (Then dc (Then number end)))) (bare n 2 a) (bare n 3 zero_text ∷ v ∷ stop ∷ []) (name_sort a)
+            (more_match sort_of is_name (Or (Then (One is_value) end) (Then dc (Then number end))) (bare n 3 zero_text) (v ∷ stop ∷ []) refl
+            (inl (two_match sort_of is_value (the (sort_of_end [])) v stop (value_sort value c.is.sort) refl)))))));
         fine = (
           λ f k. false_true k.1.1,
           (
@@ -210,10 +206,10 @@ module _ (laws : NumberLaws) (before : List (List Token)) (here : section_of bef
       let stop = card_end (line_at (n + 1)) in
       record {
         matches = in_cards (unit n (Amps tail a value))
-            (inr (inr (inl (more_match (the Load) (Then name (Then name (Or (Then (One is_value) load_end) (Then dc (Then number load_end))))) (bare n 1 (73 ∷ tail)) (bare n 2 a ∷ bare n 3 zero_text ∷ v ∷ stop ∷ []) refl
-            (more_match is_name (Then name (Or (Then (One is_value) load_end) (Then dc (Then number load_end)))) (bare n 2 a) (bare n 3 zero_text ∷ v ∷ stop ∷ []) (name_sort a)
-            (more_match is_name (Or (Then (One is_value) load_end) (Then dc (Then number load_end))) (bare n 3 zero_text) (v ∷ stop ∷ []) refl
-            (inl (more_match is_value load_end v (stop ∷ []) (value_sort value c.is.sort) (inl (stop, refl, refl))))))))));
+            (inr (inr (inl (more_match sort_of (the (sort_of_text (codes "I"))) (Then name (Then name (Or (Then (One is_value) load_end) (Then dc (Then number load_end))))) (bare n 1 (73 ∷ tail)) (bare n 2 a ∷ bare n 3 zero_text ∷ v ∷ stop ∷ []) refl
+            (more_match sort_of is_name (Then name (Or (Then (One is_value) load_end) (Then dc (Then number load_end)))) (bare n 2 a) (bare n 3 zero_text ∷ v ∷ stop ∷ []) (name_sort a)
+            (more_match sort_of is_name (Or (Then (One is_value) load_end) (Then dc (Then number load_end))) (bare n 3 zero_text) (v ∷ stop ∷ []) refl
+            (inl (more_match sort_of is_value load_end v (stop ∷ []) (value_sort value c.is.sort) (inl (stop, refl, refl))))))))));
         fine = (
           λ f k. false_true k.1.1,
           (
@@ -242,13 +238,13 @@ module _ (laws : NumberLaws) (before : List (List Token)) (here : section_of bef
       let stop = card_end (record { line = n + 1; word = 4 }) in
       record {
         matches = in_cards (unit n (AmpsIn tail a value low high))
-            (inr (inr (inl (more_match (the Load) (Then name (Then name (Or (Then (One is_value) load_end) (Then dc (Then number load_end))))) (bare n 1 (73 ∷ tail)) (bare n 2 a ∷ bare n 3 zero_text ∷ v ∷ star ∷ l ∷ h ∷ stop ∷ []) refl
-            (more_match is_name (Then name (Or (Then (One is_value) load_end) (Then dc (Then number load_end)))) (bare n 2 a) (bare n 3 zero_text ∷ v ∷ star ∷ l ∷ h ∷ stop ∷ []) (name_sort a)
-            (more_match is_name (Or (Then (One is_value) load_end) (Then dc (Then number load_end))) (bare n 3 zero_text) (v ∷ star ∷ l ∷ h ∷ stop ∷ []) refl
-            (inl (more_match is_value load_end v (star ∷ l ∷ h ∷ stop ∷ []) (value_sort value c.is.sort)
-            (inr (more_match (the Range) (Then number (Then number end)) star (l ∷ h ∷ stop ∷ []) refl
-            (more_match is_number (Then number end) l (h ∷ stop ∷ []) (number_sort low r.low_is.sort)
-            (two_match is_number (the CardEnd) h stop (number_sort high r.high_is.sort) refl))))))))))));
+            (inr (inr (inl (more_match sort_of (the (sort_of_text (codes "I"))) (Then name (Then name (Or (Then (One is_value) load_end) (Then dc (Then number load_end))))) (bare n 1 (73 ∷ tail)) (bare n 2 a ∷ bare n 3 zero_text ∷ v ∷ star ∷ l ∷ h ∷ stop ∷ []) refl
+            (more_match sort_of is_name (Then name (Or (Then (One is_value) load_end) (Then dc (Then number load_end)))) (bare n 2 a) (bare n 3 zero_text ∷ v ∷ star ∷ l ∷ h ∷ stop ∷ []) (name_sort a)
+            (more_match sort_of is_name (Or (Then (One is_value) load_end) (Then dc (Then number load_end))) (bare n 3 zero_text) (v ∷ star ∷ l ∷ h ∷ stop ∷ []) refl
+            (inl (more_match sort_of is_value load_end v (star ∷ l ∷ h ∷ stop ∷ []) (value_sort value c.is.sort)
+            (inr (more_match sort_of (the (sort_of_end (codes "*range"))) (Then number (Then number end)) star (l ∷ h ∷ stop ∷ []) refl
+            (more_match sort_of is_number (Then number end) l (h ∷ stop ∷ []) (number_sort low r.low_is.sort)
+            (two_match sort_of is_number (the (sort_of_end [])) h stop (number_sort high r.high_is.sort) refl))))))))))));
         fine = (
           λ f k. false_true k.1.1,
           (
@@ -283,14 +279,21 @@ module _ (laws : NumberLaws) (before : List (List Token)) (here : section_of bef
 
 -- ## sections
 
-section_more : (s : Section) (xs ys : List (List Token)) → section_from s (xs ++ ys) ≡ section_from (section_from s xs) ys
-section_more s [] ys = refl
-section_more s (x ∷ xs) ys = section_more (section_after s x) xs ys
+fold_more : {S : Type 0} (from : S → List (List Token) → S) (after : S → List Token → S) → ((s : S) → from s [] ≡ s) →
+    ((s : S) (u : List Token) (us : List (List Token)) → from s (u ∷ us) ≡ from (after s u) us) →
+    (s : S) (xs ys : List (List Token)) → from s (xs ++ ys) ≡ from (from s xs) ys
+fold_more from after none more s [] ys = ap (λ z. from z ys) (sym (none s))
+fold_more from after none more s (x ∷ xs) ys =
+    more s x (xs ++ ys) ∙ fold_more from after none more (after s x) xs ys ∙ ap (λ z. from z ys) (sym (more s x xs))
 
-section_next : (before : List (List Token)) (s : Section) (u : List Token) → section_of before ≡ s → section_of (before ++ u ∷ []) ≡ section_after s u
-section_next before s u e = section_more Cards before (u ∷ []) ∙ ap (λ z. section_after z u) e
+section_both : (xs ys : List (List Token)) → section_of (xs ++ ys) ≡ section_from (section_of xs) ys
+section_both xs ys = fold_more section_from section_after (λ s. refl) (λ s u us. refl) (section_of []) xs ys
 
-after_unit : (n : ℕ) (card : CardText) → section_after Cards (unit n card) ≡ Cards
+-- Units after which the same may follow are followed by units after which the same may follow.
+section_next : (before same : List (List Token)) (u : List Token) → section_of before ≡ section_of same → section_of (before ++ u ∷ []) ≡ section_of (same ++ u ∷ [])
+section_next before same u e = section_both before (u ∷ []) ∙ ap (λ z. section_after z u) e ∙ sym (section_both same (u ∷ []))
+
+after_unit : (n : ℕ) (card : CardText) → section_of (unit n card ∷ []) ≡ section_of []
 after_unit n (Ohms tail a b value) = refl
 after_unit n (Volts tail a value) = refl
 after_unit n (Amps tail a value) = refl
@@ -303,19 +306,21 @@ unit_some n (Amps tail a value) = omega arith
 unit_some n (AmpsIn tail a value low high) = omega arith
 
 -- All cards, and then the others.
-pub cards_taken : NumberLaws → (cards : List CardText) (n : ℕ) (before rest : List (List Token)) → section_of before ≡ Cards → AllByRecursion IsCard cards →
+pub cards_taken : NumberLaws → (cards : List CardText) (n : ℕ) (before rest : List (List Token)) → section_of before ≡ section_of [] → AllByRecursion IsCard cards →
     AreTaken format (before ++ units n cards) rest → AreTaken format before (units n cards ++ rest)
 cards_taken laws [] n before rest here h t = subst (λ z. AreTaken format z rest) (append-nil before) t
 cards_taken laws (card ∷ cards) n before rest here h t = (
   unit_some n card,
   card_taken laws before here n card h.0,
-  cards_taken laws cards (past n card) (before ++ unit n card ∷ []) rest (section_next before Cards (unit n card) here ∙ after_unit n card) h.1
+  cards_taken laws cards (past n card) (before ++ unit n card ∷ []) rest (section_next before [] (unit n card) here ∙ after_unit n card) h.1
       (subst (λ z. AreTaken format z rest) (sym (append_assoc before (unit n card ∷ []) (units (past n card) cards))) t),
 )
 
-pub cards_section : (cards : List CardText) (n : ℕ) (s : Section) → s ≡ Cards → section_from s (units n cards) ≡ Cards
-cards_section [] n s e = e
-cards_section (card ∷ cards) n s e = cards_section cards (past n card) (section_after s (unit n card)) (ap (λ z. section_after z (unit n card)) e ∙ after_unit n card)
+pub cards_section : (cards : List CardText) (n : ℕ) (before : List (List Token)) → section_of before ≡ section_of [] → section_of (before ++ units n cards) ≡ section_of []
+cards_section [] n before e = ap section_of (append-nil before) ∙ e
+cards_section (card ∷ cards) n before e =
+    ap section_of (sym (append_assoc before (unit n card ∷ []) (units (past n card) cards)))
+    ∙ cards_section cards (past n card) (before ++ unit n card ∷ []) (section_next before [] (unit n card) e ∙ after_unit n card)
 
 -- ## the last units
 
@@ -324,17 +329,17 @@ end_form [] = refl
 end_form (w ∷ []) = refl
 end_form (v ∷ w ∷ words) = end_form (w ∷ words)
 
-end_sort : (words : List Token) → sort_of (end_after words) ≡ TextEnd
+end_sort : (words : List Token) → sort_of (end_after words) ≡ sort_of (end_after [])
 end_sort words = ap (λ z. sort_with z (end_after words).text) (end_form words)
 
-single_taken : (before : List (List Token)) (w : Token) (s : Section) → section_of before ≡ s → Matches sort_of (pattern s) (w ∷ []) → is_strange (sort_of w) ≡ false →
+single_taken : (before same : List (List Token)) (w : Token) → section_of before ≡ section_of same → Matches sort_of (pattern (section_of same)) (w ∷ []) → is_strange (sort_of w) ≡ false →
     IsTaken format before (w ∷ [])
-single_taken before w s here m plain = record {
+single_taken before same w here m plain = record {
   matches = subst (λ z. Matches sort_of (pattern z) (w ∷ [])) (sym here) m;
   fine = (λ f k. false_true (sym plain ∙ k.1.1), tt);
 }
 
-pub last_taken : (n : ℕ) (before : List (List Token)) (words : List Token) → section_of before ≡ Cards → AreTaken format before (last_units n ++ (end_after words ∷ []) ∷ [])
+pub last_taken : (n : ℕ) (before : List (List Token)) (words : List Token) → section_of before ≡ section_of [] → AreTaken format before (last_units n ++ (end_after words ∷ []) ∷ [])
 last_taken n before words here =
     let op = word_at n (codes ".op") in
     let stop = card_end (line_at (n + 1)) in
@@ -342,33 +347,40 @@ last_taken n before words here =
     let one : List (List Token) = before ++ (op ∷ []) ∷ [] in
     let two : List (List Token) = one ++ (stop ∷ []) ∷ [] in
     let three : List (List Token) = two ++ (end ∷ []) ∷ [] in
-    let at_one : section_of one ≡ Passing = section_next before Cards (op ∷ []) here in
-    let at_two : section_of two ≡ Cards = section_next one Passing (stop ∷ []) at_one in
-    let at_three : section_of three ≡ Ended = section_next two Cards (end ∷ []) at_two in (
+    let at_one : section_of one ≡ section_of ((op ∷ []) ∷ []) = section_next before [] (op ∷ []) here in
+    let at_two : section_of two ≡ section_of [] = section_next one ((op ∷ []) ∷ []) (stop ∷ []) at_one in
+    let at_three : section_of three ≡ section_of ((end ∷ []) ∷ []) = section_next two [] (end ∷ []) at_two in (
       omega arith,
-      single_taken before op Cards here (inr (inr (inr (op, refl, refl)))) refl,
+      single_taken before [] op here (inr (inr (inr (op, refl, refl)))) refl,
       (
         omega arith,
-        single_taken one stop Passing at_one (stop, refl, refl) refl,
+        single_taken one ((op ∷ []) ∷ []) stop at_one (stop, refl, refl) refl,
         (
           omega arith,
-          single_taken two end Cards at_two (inr (inr (inr (end, refl, refl)))) refl,
-          (omega arith, single_taken three (end_after words) Ended at_three (end_after words, ap (the TextEnd) (end_sort words), refl) (ap is_strange (end_sort words)), tt),
+          single_taken two [] end at_two (inr (inr (inr (end, refl, refl)))) refl,
+          (
+            omega arith,
+            single_taken three ((end ∷ []) ∷ []) (end_after words) at_three (end_after words, ap (the (sort_of (end_after []))) (end_sort words), refl) (ap is_strange (end_sort words)),
+            tt,
+          ),
         ),
       ),
     )
 
 -- ## no front ends the text
 
-abbrev NoneEnds : Section → List (List Token) → Type 0
-NoneEnds s [] = Unit {0}
-NoneEnds s (u ∷ us) = (is_ended s ≡ false) × NoneEnds (section_after s u) us
+abbrev NoneEnds : {S : Type 0} → (S → List Token → S) → (S → Bool) → S → List (List Token) → Type 0
+NoneEnds after ended s [] = Unit {0}
+NoneEnds after ended s (u ∷ us) = (ended s ≡ false) × NoneEnds after ended (after s u) us
 
-front_open : (s : Section) (front : List (List Token)) (next : List Token) (back : List (List Token)) → NoneEnds s (front ++ next ∷ back) → is_ended (section_from s front) ≡ false
-front_open s [] next back h = h.0
-front_open s (u ∷ front) next back h = front_open (section_after s u) front next back h.1
+front_open : {S : Type 0} (from : S → List (List Token) → S) (after : S → List Token → S) (ended : S → Bool) → ((s : S) → from s [] ≡ s) →
+    ((s : S) (u : List Token) (us : List (List Token)) → from s (u ∷ us) ≡ from (after s u) us) →
+    (s : S) (front : List (List Token)) (next : List Token) (back : List (List Token)) → NoneEnds after ended s (front ++ next ∷ back) → ended (from s front) ≡ false
+front_open from after ended none more s [] next back h = ap ended (none s) ∙ h.0
+front_open from after ended none more s (u ∷ front) next back h =
+    ap ended (more s u front) ∙ front_open from after ended none more (after s u) front next back h.1
 
-none_ends : (cards : List CardText) (n m : ℕ) → NoneEnds Cards (units n cards ++ last_units m)
+none_ends : (cards : List CardText) (n m : ℕ) → NoneEnds section_after is_ended (section_of []) (units n cards ++ last_units m)
 none_ends [] n m = (refl, (refl, (refl, tt)))
 none_ends (Ohms tail a b value ∷ cards) n m = (refl, none_ends cards (n + 1) m)
 none_ends (Volts tail a value ∷ cards) n m = (refl, none_ends cards (n + 1) m)
@@ -377,11 +389,13 @@ none_ends (AmpsIn tail a value low high ∷ cards) n m = (refl, none_ends cards 
 
 pub fronts_open : (cards : List CardText) (n m : ℕ) (front : List (List Token)) (next : List Token) (back : List (List Token)) →
     units n cards ++ last_units m ≡ front ++ next ∷ back → is_ended (section_of front) ≡ false
-fronts_open cards n m front next back e = front_open Cards front next back (subst (NoneEnds Cards) e (none_ends cards n m))
+fronts_open cards n m front next back e =
+    front_open section_from section_after is_ended (λ s. refl) (λ s u us. refl) (section_of []) front next back
+    (subst (λ z. NoneEnds section_after is_ended (section_of []) z) e (none_ends cards n m))
 
 pub whole_ends : (cards : List CardText) (n m : ℕ) → is_ended (section_of (units n cards ++ last_units m)) ≡ true
 whole_ends cards n m =
-    ap is_ended (section_more Cards (units n cards) (last_units m) ∙ ap (λ z. section_from z (last_units m)) (cards_section cards n Cards refl))
+    ap is_ended (section_both (units n cards) (last_units m) ∙ ap (λ z. section_from z (last_units m)) (cards_section cards n [] refl))
 
 -- ## what cards the units are
 
@@ -394,13 +408,13 @@ said_card (AmpsIn tail a value low high) = said.Load a zero_text value (Some (re
 card_is : (n : ℕ) (card : CardText) → IsCard card → card_of (unit n card) ≡ Some (said_card card)
 card_is n (Ohms tail a b value) c = refl
 card_is n (Volts tail a value) c =
-    ap (λ s. source_with a zero_text (if the Dc s then (card_end (line_at (n + 1)) ∷ []) else (bare n 4 value ∷ card_end (line_at (n + 1)) ∷ []))) c.is.sort
+    ap (λ s. source_with a zero_text (if the (sort_of_text (codes "DC")) s then (card_end (line_at (n + 1)) ∷ []) else (bare n 4 value ∷ card_end (line_at (n + 1)) ∷ []))) c.is.sort
 card_is n (Amps tail a value) c =
-    ap (λ s. load_with a zero_text (if the Dc s then (card_end (line_at (n + 1)) ∷ []) else (bare n 4 value ∷ card_end (line_at (n + 1)) ∷ []))) c.is.sort
+    ap (λ s. load_with a zero_text (if the (sort_of_text (codes "DC")) s then (card_end (line_at (n + 1)) ∷ []) else (bare n 4 value ∷ card_end (line_at (n + 1)) ∷ []))) c.is.sort
 card_is n (AmpsIn tail a value low high) c =
     let star : Token = record { text = codes "*range"; place = line_at (n + 1); form = Break } in
     let rest : List Token = star ∷ bare (n + 1) 2 low ∷ bare (n + 1) 3 high ∷ card_end (record { line = n + 1; word = 4 }) ∷ [] in
-    ap (λ s. load_with a zero_text (if the Dc s then rest else (bare n 4 value ∷ rest))) c.0.is.sort
+    ap (λ s. load_with a zero_text (if the (sort_of_text (codes "DC")) s then rest else (bare n 4 value ∷ rest))) c.0.is.sort
 
 pub cards_are : (cards : List CardText) (n : ℕ) (more : List (List Token)) → AllByRecursion IsCard cards → cards_of (units n cards ++ more) ≡ map said_card cards ++ cards_of more
 cards_are [] n more h = refl

@@ -5,7 +5,7 @@ use Rattle.std.specs.List.{AllByRecursion}
 use Rattle.std.proofs.lemmas.List.{append-nil}
 use Rattle.outside.specs.declared.place.Place.{Place}
 use Rattle.text_lex.specs.Bytes.{line_feed, count_of}
-use Rattle.netlist_words.specs.declared.class.Before.TheVariants.{Nothing}
+use Rattle.netlist_words.specs.Class.{opened}
 use Rattle.netlist_words.specs.Line.{Line, parts, numbered, lines_of, end_of}
 use Rattle.netlist_words.specs.Title.{without_title}
 use Rattle.netlist_words.specs.Text.{counted, words_from, netlist_text}
@@ -97,7 +97,7 @@ abbrev pub past_notes : ℕ → List Note → ℕ
 past_notes n [] = n
 past_notes n (note ∷ notes) = past_notes (n + 1) notes
 
-notes_passed : (notes : List Note) (n : ℕ) (more : List (List ℕ)) → counted Nothing (numbered n (map note_bytes notes ++ more)) ≡ counted Nothing (numbered (past_notes n notes) more)
+notes_passed : (notes : List Note) (n : ℕ) (more : List (List ℕ)) → counted (opened []) (numbered n (map note_bytes notes ++ more)) ≡ counted (opened []) (numbered (past_notes n notes) more)
 notes_passed [] n more = refl
 notes_passed (note ∷ notes) n more = notes_passed notes (n + 1) more
 
@@ -126,10 +126,10 @@ text_words notes cards h k =
     let n : ℕ = first_card notes in
     let m : ℕ = past_all n cards in
     let more : List (List ℕ) = flat_map card_lines cards ++ last_lines in
-    ap (λ z. words_from (counted Nothing (without_title z)) end) (all_lines notes cards h k)
+    ap (λ z. words_from (counted (opened []) (without_title z)) end) (all_lines notes cards h k)
     ∙ ap (λ z. words_from z end) (notes_passed notes 2 more)
-    ∙ words_are cards n Nothing last_lines end k last_opens
-    ∙ ap (λ z. joined (units n cards) ++ z) (last_words (leave Nothing cards) m end)
+    ∙ words_are cards n [] last_lines end k last_opens
+    ∙ ap (λ z. joined (units n cards) ++ z) (last_words (leave [] cards) m end)
     ∙ sym (append_assoc (joined (units n cards)) (joined (last_units m)) (rest_of end))
     ∙ ap (λ z. z ++ rest_of end) (sym (joined_both (units n cards) (last_units m)))
 
@@ -144,7 +144,7 @@ units_taken laws notes cards h =
     let end : List (List Token) = (end_after (joined (text_units notes cards)) ∷ []) ∷ [] in
     subst (AreTaken format []) (sym (append_assoc (units n cards) (last_units m) end))
     (cards_taken laws cards n [] (last_units m ++ end) refl h
-    (last_taken m (units n cards) (joined (text_units notes cards)) (cards_section cards n _ refl)))
+    (last_taken m (units n cards) (joined (text_units notes cards)) (cards_section cards n [] refl)))
 
 -- The text is read as these units.
 pub text_read : NumberLaws → WholeCards → (notes : List Note) (cards : List CardText) → AllByRecursion IsOnOneLine notes → AllByRecursion IsCard cards →

@@ -19,7 +19,6 @@ use Rattle.number_place.specs.declared.place.NumberForm.TheVariants.{Scaled}
 use Rattle.number_place.specs.declared.place.NumberSign.TheVariants.{Any}
 use Rattle.number_place.specs.declared.place.Refused.{Refused}
 use Rattle.number_place.specs.Place.{IsNumberAt}
-use Rattle.spice_cards.specs.declared.sort.Sort.TheVariants.{Other}
 use Rattle.spice_cards.specs.Sort.{sort_of_text}
 use Rattle.written_netlists.proofs.Lines.{IsText}
 
@@ -34,7 +33,7 @@ pub record NumberLaws : Type 0 where
 -- The text is one word, which is no keyword and no letter of a card, and stands for this number in this place.
 pub record IsValue (place : NumberPlace) (text : List ℕ) (value : ℤ) : Type 0 where
   pub word : IsText text
-  pub sort : sort_of_text text ≡ Other
+  pub sort : sort_of_text text ≡ sort_of_text (codes "0")
   pub number : IsNumberAt place text (Ok value)
 
 -- ## words
@@ -112,20 +111,20 @@ at_digit P a b c d e f g h i j (suc (suc (suc (suc (suc (suc (suc (suc zero)))))
 at_digit P a b c d e f g h i j (suc (suc (suc (suc (suc (suc (suc (suc (suc zero))))))))) l = j
 at_digit P a b c d e f g h i j (suc (suc (suc (suc (suc (suc (suc (suc (suc (suc n)))))))))) l = absurd (omega arith)
 
-digit_sort : (c : ℕ) (cs : List ℕ) → 48 ≤ c → c ≤ 57 → sort_of_text (c ∷ cs) ≡ Other
+digit_sort : (c : ℕ) (cs : List ℕ) → 48 ≤ c → c ≤ 57 → sort_of_text (c ∷ cs) ≡ sort_of_text (codes "0")
 digit_sort c cs low high =
     let at : 48 + (c - 48) ≡ c = omega arith in
-    subst (λ z. sort_of_text (z ∷ cs) ≡ Other) at
-    (at_digit (λ z. sort_of_text (z ∷ cs) ≡ Other) refl refl refl refl refl refl refl refl refl refl (c - 48) (omega arith))
+    subst (λ z. sort_of_text (z ∷ cs) ≡ sort_of_text (codes "0")) at
+    (at_digit (λ z. sort_of_text (z ∷ cs) ≡ sort_of_text (codes "0")) refl refl refl refl refl refl refl refl refl refl (c - 48) (omega arith))
 
-unsigned_sort : (digits more : List ℕ) → 0 < length digits → AllDigits 10 digits → sort_of_text (digits ++ more) ≡ Other
+unsigned_sort : (digits more : List ℕ) → 0 < length digits → AllDigits 10 digits → sort_of_text (digits ++ more) ≡ sort_of_text (codes "0")
 unsigned_sort [] more some h = absurd (omega arith)
 unsigned_sort (c ∷ cs) more some h =
     let range = digit_from_value c h.0 in
     digit_sort c (cs ++ more) range.0 range.1
 
 signed_sort : (below : Bool) (n places : ℕ) → n < 10 ^ 64 →
-    sort_of_text ((if below then codes "-" else []) ++ (decimal (n / 10 ^ places) ++ places_text n places)) ≡ Other
+    sort_of_text ((if below then codes "-" else []) ++ (decimal (n / 10 ^ places) ++ places_text n places)) ≡ sort_of_text (codes "0")
 signed_sort true n places few = refl
 signed_sort false n places few =
     let numeral = decimal_is_IsNumeral_wide (n / 10 ^ places) (omega (arith, div-le_self n (10 ^ places))) in

@@ -102,8 +102,11 @@ name_kept layers key =
     (signed_kept key.x)) bar)
     (signed_kept key.y)
 
+other_byte : (a b : ℕ) → a ≡ b → b < a → ⊥
+other_byte a b e h = omega arith
+
 not_zero : (layers : ℕ) (key : Key) → name_of layers key ≢ ground
-not_zero layers key e = let first : 110 ≡ 48 = ap (λ z. get_or z 0 0) e in omega arith
+not_zero layers key e = other_byte 110 48 (ap (λ z. get_or z 0 0) e) (omega arith)
 
 node_name : (layers : ℕ) (key : Key) → IsBare Lines true (name_of layers key) [] → IsNodeName (name_of layers key)
 node_name layers key word = record { word = word; no_capitals = folded_kept (name_of layers key) (name_kept layers key); not_ground = not_zero layers key }
@@ -130,12 +133,15 @@ no_feeds (c ∷ cs) h =
 name_line : (name : List ℕ) → IsName name → count_of line_feed name ≡ 0
 name_line name h = no_feeds name h.0.plain
 
+none_some : {X : Type 0} (x : X) → None ≡ Some x → ⊥
+none_some x h = cc
+
 at_place : {X : Type 0} (xs : List X) (k : ℕ) (x : X) → slice_get xs k ≡ Some x → Contains xs x
 at_place xs k x e = (k, slice_get_within xs k x e, get_or_from_slice_get xs k x x e)
 
 layer_by : (layers : List RoutingLayer) → All (λ (l : RoutingLayer). IsName l.name) layers → (k : ℕ) (found : Option RoutingLayer) (name : List ℕ) →
     slice_get layers k ≡ found → option_map (λ (l : RoutingLayer). l.name) found ≡ Some name → IsName name
-layer_by layers good k None name e h = absurd (let t : None {A = List ℕ} ≡ Some name = h in cc)
+layer_by layers good k None name e h = absurd (none_some name h)
 layer_by layers good k (Some layer) name e h =
     let same : layer.name ≡ name = cc in
     subst IsName same (All-contains (λ (l : RoutingLayer). IsName l.name) layers layer good (at_place layers k layer e))
@@ -157,7 +163,7 @@ any_later : (P : Pad → Type 0) (p : Pad) (ps : List Pad) → Any P ps → Any 
 any_later P p ps (k, q, l, e, h) = (suc k, q, omega arith, e, h)
 
 any_pad : (pads : List Pad) (i : ℕ) (v : ℤ) → first_pad pads i ≡ Some v → Any (λ (p : Pad). p.node ≡ i) pads
-any_pad [] i v h = absurd (let t : None {A = ℤ} ≡ Some v = h in cc)
+any_pad [] i v h = absurd (none_some v h)
 any_pad (p ∷ ps) i v h = first_by (p.node == i) p ps i v refl (any_later (λ (q : Pad). q.node ≡ i) p ps) (any_pad ps i v) h
 
 or_true : (a b : Bool) → b ≡ true → (a || b) ≡ true

@@ -1,5 +1,5 @@
 -- The cards of a written netlist, line by line, and the units that are read of them.
-use Rattle.std.proofs.Common.{◌≡◌, ℕ, ◌+◌, ◌<◌, ◌==◌, ◌&&◌, Bool, true, false, List, [], ◌∷◌, ◌++◌, length, codes, refl, sym, ◌∙◌, ap, append_assoc, arith}
+use Rattle.std.proofs.Common.{◌≡◌, ℕ, ◌+◌, ◌==◌, ◌&&◌, Bool, true, false, List, [], ◌∷◌, ◌++◌, length, codes, refl, sym, ◌∙◌, ap, append_assoc}
 use Rattle.std.specs.Prelude.{if◌then◌else◌, flat_map}
 use Rattle.std.specs.List.{join_with_byte, AllByRecursion}
 use Rattle.std.specs.Str.{bytes_eq}
@@ -8,8 +8,7 @@ use Rattle.reading.specs.declared.word.Form.TheVariants.{Bare, Break}
 use Rattle.reading.specs.Pattern.{joined}
 use Rattle.reading.specs.Word.{Token, end_at}
 use Rattle.netlist_words.specs.Class.{class_of, open_after, opened, has_card, may_range, names_range, has_none}
-use Rattle.netlist_words.specs.Line.{Line, numbered, words_of, placed, words_on, line_start}
-use Rattle.netlist_words.specs.Title.{begins_with}
+use Rattle.netlist_words.specs.Line.{Line, numbered, words_of, placed, words_on}
 use Rattle.netlist_words.specs.Text.{Classed, counted_with, counted, card_end, with_form, end_of_card, words_from}
 use Rattle.written_netlists.proofs.Lines.{IsText, words_back}
 

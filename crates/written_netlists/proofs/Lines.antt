@@ -1,8 +1,7 @@
 -- Lines of words: what is written as lines of words is taken apart into these lines and words again.
-use Rattle.std.proofs.Common.{◌≡◌, ℕ, ◌+◌, ◌<◌, ◌==◌, ◌&&◌, ◌||◌, not, Bool, true, false, List, [], ◌∷◌, ◌++◌, length, codes, refl, sym, ◌∙◌, ap, append_assoc, arith}
+use Rattle.std.proofs.Common.{◌≡◌, ℕ, ◌+◌, ◌<◌, ◌==◌, ◌&&◌, not, Bool, true, false, List, [], ◌∷◌, ◌++◌, length, refl, ◌∙◌, ap, append_assoc, arith}
 use Rattle.std.specs.Prelude.{IsTrue, if◌then◌else◌, filter, flat_map}
 use Rattle.std.specs.List.{list_all, join_with_byte, AllByRecursion}
-use Rattle.std.proofs.lemmas.List.Concat.{flat_map-append}
 use Rattle.text_lex.specs.declared.word.Mode.TheVariants.{Lines}
 use Rattle.text_lex.specs.Bytes.{is_plain, is_white, line_feed, count_of}
 use Rattle.netlist_words.specs.Line.{parts, with_byte, is_some_word, words_of}

@@ -1,9 +1,9 @@
 -- The cards of a network say its lists, name its nodes, and make it again.
-use Rattle.std.proofs.Common.{◌≡◌, ◌≢◌, ◌↔◌, ℕ, zero, suc, ◌+◌, ◌-◌, ◌<◌, ◌≤◌, ◌==◌, ◌||◌, Bool, true, false, ℤ, pos, List, [], ◌∷◌, ◌++◌, length, map, codes, get_or, All, Contains, refl, sym, ◌∙◌, ap, subst, append_assoc, arith, inl, inr, ◌⊎◌, length-append}
-use Rattle.std.specs.Prelude.{Any, None, Some, if◌then◌else◌, unsigned_abs, ◌≤ℤ◌, max, filter, flat_map, slice_index_or}
+use Rattle.std.proofs.Common.{◌≡◌, ℕ, zero, suc, ◌+◌, ◌<◌, ◌≤◌, Bool, true, false, pos, List, [], ◌∷◌, ◌++◌, length, map, Contains, refl, sym, ◌∙◌, ap, subst, arith, inl, inr}
+use Rattle.std.specs.Prelude.{Any, if◌then◌else◌, unsigned_abs, ◌≤ℤ◌, filter, flat_map}
 use Rattle.std.specs.List.{enumerate_from, AllByRecursion}
 use Rattle.std.proofs.lemmas.Bool.{cases_eq}
-use Rattle.std.proofs.lemmas.List.{append-nil, map-append, get_or_default}
+use Rattle.std.proofs.lemmas.List.{append-nil}
 use Rattle.std.proofs.lemmas.List.Concat.{flat_map-append}
 use Rattle.std.proofs.lemmas.List.FromFn.{length-enumerate_from, get_or-enumerate_from}
 use Rattle.std.proofs.lemmas.List.Elements.{All-from_get_or, recursion_from_All, Contains-append_left, Contains-append_right, Contains-append_cases}
@@ -13,16 +13,13 @@ use Rattle.grid_net.specs.declared.part.Pad.{Pad}
 use Rattle.grid_net.specs.declared.part.Load.{Load}
 use Rattle.grid_net.specs.declared.part.LoadRange.{LoadRange}
 use Rattle.grid_net.specs.Limits.{IsBuilt, greatest_load}
-use Rattle.grid_net.specs.Network.{Network, load_range, load_size, over_nodes, total_load, stands_at}
+use Rattle.grid_net.specs.Network.{Network, load_size, over_nodes}
 use Rattle.spice_cards.specs.Card.{Card}
-use Rattle.spice_cards.specs.Record.{Part, resistor_part, pad_part, load_part, SaysCard, nodes_of}
+use Rattle.spice_cards.specs.Record.{Part, resistor_part, pad_part, load_part, nodes_of}
 use Rattle.spice_grid.specs.Netlist.{resistors_of, shorts_of, loads_of}
 use Rattle.spice_grid.specs.Written.{name_of, draws, drawing_loads}
-use Rattle.written_netlists.specs.Fits.{IsNodeName, HasCard, CanBeWritten}
-use Rattle.written_netlists.proofs.Values.{NumberLaws}
 use Rattle.written_netlists.proofs.Cards.{CardText}
-use Rattle.written_netlists.proofs.Taken.{IsCard, said_card}
-use Rattle.written_netlists.proofs.Parts.{resistor_card, pad_card, load_card, IsResistorHere, IsPadHere, IsLoadHere, entry, resistor_is, pad_is, load_is, resistor_says, pad_says, load_says, resistor_nodes, pad_nodes, load_nodes}
+use Rattle.written_netlists.proofs.Parts.{resistor_card, pad_card, load_card, IsResistorHere, IsPadHere, IsLoadHere, entry}
 
 -- ## lists
 

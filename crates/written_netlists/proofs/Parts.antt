@@ -1,18 +1,13 @@
 -- What the cards of a written network say: its resistors, its pads and its loads, with the names of their nodes.
-use Rattle.std.proofs.Common.{◌≡◌, ◌≢◌, ℕ, ◌+◌, ◌<◌, ◌≤◌, ◌^◌, ◌||◌, Bool, true, false, ℤ, pos, List, [], ◌∷◌, ◌++◌, length, map, codes, get_or, All, Ok, refl, sym, ◌∙◌, ap, subst, append_assoc, arith, rules, inl, inr, ◌⊎◌}
-use Rattle.std.specs.Prelude.{None, Some, slice_get, if◌then◌else◌, unsigned_abs, int_lt, ◌≤ℤ◌, neg_ℤ, nat_lt, decimal, flat_map, slice_index_or}
-use Rattle.std.specs.List.{enumerate_from, AllByRecursion}
+use Rattle.std.proofs.Common.{◌≡◌, ◌≢◌, ℕ, ◌<◌, ◌≤◌, ◌^◌, Bool, true, false, ℤ, pos, List, [], ◌∷◌, ◌++◌, length, codes, All, refl, sym, ◌∙◌, ap, subst, arith}
+use Rattle.std.specs.Prelude.{Some, if◌then◌else◌, unsigned_abs, int_lt, ◌≤ℤ◌, neg_ℤ, nat_lt, decimal}
 use Rattle.std.specs.Ordering.{int_eq}
-use Rattle.std.specs.Str.{bytes_eq}
-use Rattle.std.proofs.lemmas.List.{append-nil, map-append}
-use Rattle.std.proofs.lemmas.List.Concat.{flat_map-append}
-use Rattle.std.proofs.lemmas.List.Elements.{All-head, All-tail, All-get_or}
+use Rattle.std.proofs.lemmas.List.Elements.{All-get_or}
 use Rattle.std.proofs.lemmas.Option.{slice_get-get_or}
 use Rattle.std.proofs.lemmas.Slice.Eq.{bytes_eq-Decides}
 use Rattle.std.proofs.lemmas.Bool.Decides.{Decides-int_eq}
 use Rattle.std.proofs.lemmas.Int.{ints}
 use Rattle.std.specs.Int.Signed.{≤ℤ_refl}
-use Rattle.entry_list.specs.InTurn.{InTurn}
 use Rattle.fixed_decimal.specs.Printed.{printed}
 use Rattle.grid_net.specs.declared.part.Resistor.{Resistor}
 use Rattle.grid_net.specs.declared.part.Pad.{Pad}
@@ -20,16 +15,14 @@ use Rattle.grid_net.specs.declared.part.Load.{Load}
 use Rattle.grid_net.specs.declared.part.LoadRange.{LoadRange}
 use Rattle.grid_net.specs.Limits.{greatest_resistance, greatest_voltage, greatest_load, IsInLimit}
 use Rattle.node_names.specs.Folding.{folded}
-use Rattle.number_place.specs.Place.{IsNumberAt}
-use Rattle.spice_cards.specs.Number.{ohms, volts, amperes}
-use Rattle.spice_cards.specs.Card.{Card, is_ground}
+use Rattle.spice_cards.specs.Card.{is_ground}
 use Rattle.spice_cards.specs.Fault.{is_zero}
-use Rattle.spice_cards.specs.Record.{HasNumber, Part, resistor_part, short_part, pad_part, load_part, SaysSource, LoadsNode, SaysCard, but_ground, source_nodes, nodes_of}
+use Rattle.spice_cards.specs.Record.{HasNumber, resistor_part, short_part, pad_part, load_part, SaysSource, LoadsNode, SaysCard, source_nodes, nodes_of}
 use Rattle.spice_grid.specs.Named.{ground}
-use Rattle.spice_grid.specs.Written.{name_of, draws, card_end}
+use Rattle.spice_grid.specs.Written.{name_of, card_end}
 use Rattle.written_netlists.specs.Fits.{IsNodeName}
 use Rattle.written_netlists.proofs.Lines.{IsText}
-use Rattle.written_netlists.proofs.Values.{NumberLaws, IsValue, scaled, numbered_text, printed_is}
+use Rattle.written_netlists.proofs.Values.{NumberLaws, numbered_text, printed_is}
 use Rattle.written_netlists.proofs.Cards.{CardText, Ohms, Volts, Amps, AmpsIn}
 use Rattle.written_netlists.proofs.Taken.{AmpsIs, IsCard, said_card}
 

@@ -1,32 +1,28 @@
 -- The loads that draw anything, as they are read, add up to the loads of the network, and pads stay.
-use Rattle.std.proofs.Common.{◌≡◌, ◌≢◌, ◌↔◌, ℕ, zero, suc, ◌+◌, ◌<◌, ◌≤◌, ◌==◌, eqb, eqb-true, eq-eqb, cond, Bool, true, false, ℤ, pos, ◌+ℤ◌, List, [], ◌∷◌, ◌++◌, length, map, get_or, All, refl, sym, ◌∙◌, ap, subst, add-one, arith, inl, inr, ◌⊎◌}
-use Rattle.std.specs.Prelude.{Option, None, Some, if◌then◌else◌, unsigned_abs, ◌&&◌, not, max, filter, slice_index, position}
+use Rattle.std.proofs.Common.{◌≡◌, ◌≢◌, ℕ, zero, suc, ◌+◌, ◌<◌, ◌≤◌, ◌==◌, eqb-true, eq-eqb, Bool, true, false, ℤ, pos, ◌+ℤ◌, List, [], ◌∷◌, length, map, get_or, All, refl, sym, ◌∙◌, ap, add-one, arith}
+use Rattle.std.specs.Prelude.{Option, None, Some, if◌then◌else◌, unsigned_abs, ◌&&◌, not, max, filter, position}
 use Rattle.std.specs.List.{enumerate_from, range_with_len, filter_map}
-use Rattle.std.specs.List.Sorted.{IsStrictlyIncreasing}
 use Rattle.std.specs.Option.{option_map, option_to_list}
 use Rattle.std.specs.Ordering.{int_eq}
 use Rattle.std.specs.Str.{bytes_eq}
-use Rattle.std.proofs.lemmas.Bool.{cases_eq, cases_lt}
 use Rattle.std.proofs.lemmas.Bool.Decides.{Decides-int_eq}
 use Rattle.std.proofs.lemmas.Int.{ints}
-use Rattle.std.proofs.lemmas.List.{ext_get_or, get_or_default, length-map}
-use Rattle.std.proofs.lemmas.List.FromFn.{length-range_with_len, get_or-range_with_len, length-map-range_with_len, get_or-map-range_with_len}
-use Rattle.std.proofs.lemmas.List.Elements.{All-head, All-tail, All-from_get_or, All-get_or}
+use Rattle.std.proofs.lemmas.List.{ext_get_or}
+use Rattle.std.proofs.lemmas.List.FromFn.{length-range_with_len, length-map-range_with_len, get_or-map-range_with_len}
+use Rattle.std.proofs.lemmas.List.Elements.{All-head, All-tail, All-get_or}
 use Rattle.std.proofs.lemmas.List.Quantifiers.{position-Some}
 use Rattle.std.proofs.lemmas.Slice.Eq.{bytes_eq-Decides}
-use Rattle.node_groups.specs.Joined.{IsShorted, IsChain, AreJoined}
 use Rattle.node_groups.specs.Groups.{AreGroups}
-use Rattle.node_groups.specs.Laws.{rising}
 use Rattle.group_net.specs.Merging.{grouped_pad, merged_network}
 use Rattle.grid_net.specs.declared.part.Pad.{Pad}
 use Rattle.grid_net.specs.declared.part.Load.{Load}
 use Rattle.grid_net.specs.declared.part.LoadRange.{LoadRange}
 use Rattle.grid_net.specs.Adding.{end_sum, given_load}
-use Rattle.grid_net.specs.Building.{pad_of, load_of, PadsAgree}
+use Rattle.grid_net.specs.Building.{pad_of, load_of}
 use Rattle.grid_net.specs.Limits.{IsBuilt, greatest_load}
-use Rattle.grid_net.specs.Network.{Network, load_range, load_size, over_nodes, total_load}
+use Rattle.grid_net.specs.Network.{Network, load_size, over_nodes}
 use Rattle.spice_grid.specs.Named.{ground, ground_pads}
-use Rattle.spice_grid.specs.Written.{draws, drawing_loads}
+use Rattle.spice_grid.specs.Written.{draws}
 use Rattle.written_netlists.specs.Fits.{IsNodeName}
 use Rattle.written_netlists.proofs.Alone.{in_range, alone}
 use Rattle.written_netlists.proofs.Parts.{entry}

@@ -1,27 +1,23 @@
 -- The units of written cards are whole and show no fault, and what cards they are.
-use Rattle.std.proofs.Common.{◌≡◌, ℕ, ◌+◌, ◌<◌, ◌≤◌, ◌==◌, ◌||◌, Bool, true, false, ℤ, List, [], ◌∷◌, ◌++◌, length, map, codes, Ok, refl, sym, ◌∙◌, ap, subst, append_assoc, arith, inl, inr, ◌⊎◌}
-use Rattle.std.specs.Prelude.{Option, None, Some, Result, if◌then◌else◌, int_lt, ◌≤ℤ◌, filter_map}
+use Rattle.std.proofs.Common.{◌≡◌, ℕ, ◌+◌, ◌<◌, ◌||◌, Bool, true, false, ℤ, List, [], ◌∷◌, ◌++◌, length, map, codes, Ok, refl, sym, ◌∙◌, ap, subst, append_assoc, arith, inl, inr}
+use Rattle.std.specs.Prelude.{Option, None, Some, Result, if◌then◌else◌, int_lt, filter_map}
 use Rattle.std.specs.List.{cons_option}
 use Rattle.std.proofs.lemmas.List.{append-nil}
 use Rattle.reading.specs.declared.word.Form.TheVariants.{Bare, Break}
 use Rattle.reading.specs.declared.word.Form.TheVariants.{End as EndForm}
 use Rattle.std.specs.List.{AllByRecursion}
 use Rattle.std.specs.Str.{bytes_eq}
-use Rattle.std.proofs.lemmas.Bool.{le-ltb}
 use Rattle.number_place.specs.declared.place.NumberPlace.{NumberPlace}
 use Rattle.number_place.specs.declared.place.Refused.{Refused}
-use Rattle.number_place.specs.Place.{IsNumberAt}
 use Rattle.netlist_words.specs.declared.letter.Letter.{Letter}
 use Rattle.netlist_words.specs.declared.letter.Letter.TheVariants as letters
 use Rattle.netlist_words.specs.Letter.{letter_of}
 use Rattle.netlist_words.specs.Text.{card_end}
-use Rattle.reading.specs.declared.refusal.Found.{Found}
 use Rattle.reading.specs.Keyword.{keyword_or}
-use Rattle.reading.specs.Pattern.{Pattern, One, Then, Or, Matches, joined}
-use Rattle.reading.specs.Reading.{IsFine}
+use Rattle.reading.specs.Pattern.{Pattern, One, Then, Or, Matches}
 use Rattle.reading.specs.Grammar.{IsTaken}
 use Rattle.reading.specs.Taken.{AreTaken}
-use Rattle.reading.specs.Word.{Token, end_at, end_after}
+use Rattle.reading.specs.Word.{Token, end_after}
 use Rattle.spice_cards.specs.declared.error.CardsKind.{CardsKind}
 use Rattle.spice_cards.specs.Sort.{the, keywords, sort_of_letter, sort_of_text, sort_of_end, sort_with, sort_of}
 use Rattle.spice_cards.specs.declared.error.CardsKind.TheVariants.{OutOfRange}

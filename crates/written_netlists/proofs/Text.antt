@@ -1,12 +1,10 @@
 -- The text of written cards is read as their units.
-use Rattle.std.proofs.Common.{◌≡◌, ℕ, ◌+◌, ◌<◌, ◌==◌, Bool, true, false, List, [], ◌∷◌, ◌++◌, length, map, codes, refl, sym, ◌∙◌, ap, subst, append_assoc, arith}
-use Rattle.std.specs.Prelude.{None, decimal, flat_map}
+use Rattle.std.proofs.Common.{◌≡◌, ℕ, ◌+◌, ◌<◌, Bool, true, false, List, [], ◌∷◌, ◌++◌, map, codes, refl, sym, ◌∙◌, ap, subst, append_assoc, arith}
+use Rattle.std.specs.Prelude.{decimal, flat_map}
 use Rattle.std.specs.List.{AllByRecursion}
-use Rattle.std.proofs.lemmas.List.{append-nil}
 use Rattle.outside.specs.declared.place.Place.{Place}
-use Rattle.text_lex.specs.Bytes.{line_feed, count_of}
 use Rattle.netlist_words.specs.Class.{opened}
-use Rattle.netlist_words.specs.Line.{Line, parts, numbered, lines_of, end_of}
+use Rattle.netlist_words.specs.Line.{numbered, lines_of, end_of}
 use Rattle.netlist_words.specs.Title.{without_title}
 use Rattle.netlist_words.specs.Text.{counted, words_from, netlist_text}
 use Rattle.grid_net.specs.declared.note.Note.{Note}

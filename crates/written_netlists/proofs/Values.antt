@@ -1,5 +1,5 @@
 -- Values that are written stand in cards as words that read back.
-use Rattle.std.proofs.Common.{◌≡◌, ℕ, zero, suc, ◌+◌, ◌-◌, ◌%◌, ◌<◌, ◌≤◌, ◌^◌, ◌==◌, ◌&&◌, ◌||◌, not, cond, eqb, ltb, Bool, true, false, ℤ, List, [], ◌∷◌, ◌++◌, length, get_or, codes, Ok, refl, sym, ◌∙◌, ap, subst, arith, inl, inr, ◌⊎◌}
+use Rattle.std.proofs.Common.{◌≡◌, ℕ, zero, suc, ◌+◌, ◌-◌, ◌%◌, ◌<◌, ◌≤◌, ◌^◌, ◌==◌, ◌&&◌, ◌||◌, not, cond, eqb, ltb, Bool, true, false, ℤ, List, [], ◌∷◌, ◌++◌, length, codes, Ok, refl, subst, arith}
 use Rattle.std.proofs.Math.Nat.{div-le_self}
 use Rattle.std.specs.Prelude.{IsTrue, All, Result, decimal, unsigned_abs, int_lt, pos, ◌/◌, if◌then◌else◌}
 use Rattle.std.specs.Fmt.{digits, digits_onto, digit_glyph}

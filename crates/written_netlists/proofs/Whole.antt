@@ -1,7 +1,7 @@
 -- A written netlist reads back as its network and its names.
-use Rattle.std.proofs.Common.{◌≡◌, ◌≢◌, ◌↔◌, ℕ, zero, suc, ◌+◌, ◌<◌, ◌≤◌, ◌==◌, ◌||◌, Bool, true, false, ℤ, pos, List, [], ◌∷◌, ◌++◌, length, map, codes, get_or, All, Contains, Ok, eqb-true, refl, sym, ◌∙◌, ap, subst, append_assoc, arith, inl, inr, ◌⊎◌}
-use Rattle.std.specs.Prelude.{decimal, Any, None, Some, if◌then◌else◌, ◌≤ℤ◌, filter, flat_map, slice_index_or}
-use Rattle.std.specs.List.{enumerate_from, range_with_len, AllByRecursion}
+use Rattle.std.proofs.Common.{◌≡◌, ℕ, zero, suc, ◌+◌, ◌<◌, ◌==◌, ◌||◌, Bool, true, false, pos, List, [], ◌∷◌, ◌++◌, length, map, codes, Contains, Ok, eqb-true, refl, sym, ◌∙◌, ap, subst, append_assoc, arith, inl, inr, ◌⊎◌}
+use Rattle.std.specs.Prelude.{decimal, Any, None, if◌then◌else◌, filter, flat_map, slice_index_or}
+use Rattle.std.specs.List.{enumerate_from, AllByRecursion}
 use Rattle.std.specs.Ordering.{int_eq}
 use Rattle.std.proofs.lemmas.List.{append-nil, map-append, get_or_default}
 use Rattle.std.proofs.lemmas.List.Concat.{flat_map-append}
@@ -14,21 +14,20 @@ use Rattle.grid_net.specs.declared.part.Pad.{Pad}
 use Rattle.grid_net.specs.declared.part.Load.{Load}
 use Rattle.grid_net.specs.declared.part.LoadRange.{LoadRange}
 use Rattle.grid_net.specs.Building.{KeepsLimits, PadsAgree, network_of, first_net_refusal}
-use Rattle.grid_net.specs.Limits.{IsBuilt}
 use Rattle.grid_net.specs.Network.{Network, load_range, stands_at}
 use Rattle.reading.specs.Pattern.{joined}
 use Rattle.reading.specs.Word.{Token, end_after}
 use Rattle.spice_cards.specs.Format.{IsNetlist}
 use Rattle.spice_cards.specs.Card.{Card, cards_of}
-use Rattle.spice_cards.specs.Record.{Part, SaysCard, nodes_of}
-use Rattle.spice_grid.specs.Named.{ground, ground_pads}
-use Rattle.spice_grid.specs.Netlist.{SaysInOrder, IsNamedBy, ReadsNetlist, resistors_of, shorts_of, loads_of, pads_of, network_by, refusal_by}
+use Rattle.spice_cards.specs.Record.{SaysCard, nodes_of}
+use Rattle.spice_grid.specs.Named.{ground}
+use Rattle.spice_grid.specs.Netlist.{SaysInOrder, ReadsNetlist, pads_of, network_by, refusal_by}
 use Rattle.spice_grid.specs.Written.{name_of, draws, drawing_loads, card_end, line_of, numbered_card, note_line, resistor_line, pad_line, load_lines, written_netlist}
-use Rattle.written_netlists.specs.Fits.{IsNodeName, IsOnOneLine, HasCard, CanBeWritten, read_back}
+use Rattle.written_netlists.specs.Fits.{IsOnOneLine, HasCard, CanBeWritten, read_back}
 use Rattle.written_netlists.proofs.Lines.{ended}
 use Rattle.written_netlists.proofs.Values.{NumberLaws}
 use Rattle.written_netlists.proofs.Cards.{CardText, Amps, AmpsIn, card_lines, units, last_units, past_all}
-use Rattle.written_netlists.proofs.Taken.{IsCard, said_card, cards_are, last_cards}
+use Rattle.written_netlists.proofs.Taken.{IsCard, said_card, cards_are}
 use Rattle.written_netlists.proofs.Text.{WholeCards, title, note_bytes, card_text, first_card, text_units, all_units, text_read}
 use Rattle.written_netlists.proofs.Parts.{resistor_card, pad_card, load_card, IsResistorHere, IsPadHere, IsLoadHere, entry, resistor_is, pad_is, load_is, resistor_says, pad_says, load_says, resistor_nodes, pad_nodes, load_nodes}
 use Rattle.written_netlists.proofs.Network.{each_both, each_map, each_numbered, turn_both, turn_map, map_twice, flat_mapped, resistors_good, pads_good, drawn_good, cards, parts, drawn, resistor_said, pad_said, load_said, resistors_are, shorts_are, pads_are, loads_are, IsNamed, in_one, in_two, flat_named, flat_has, any_numbered}

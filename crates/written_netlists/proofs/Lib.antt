@@ -1,4 +1,3 @@
-pub mod Engine
 pub mod Lines
 pub mod Cards
 pub mod Values

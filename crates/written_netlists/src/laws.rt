@@ -18,6 +18,7 @@ use fixed_decimal::{decimals_are_spice_numbers, numbers_are_words, printed_value
 use grid_net::no_net_refusal;
 use group_net::nothing_shorted;
 use number_place::texts_have_one_number;
+use spice_cards::whole_cards_are_read;
 use spice_grid::texts_have_one_netlist;
 
 /// A written netlist reads back: where a network, the names of its nodes and the notes of its layers can be written,
@@ -39,6 +40,7 @@ pub fn written_netlists_read_back()
     nothing_shorted();
     texts_have_one_number();
     texts_have_one_netlist();
+    whole_cards_are_read();
 }
 
 /// A netlist without shorts is its own network of groups: there is nothing to merge, and no two pads of a group differ.

@@ -1,4 +1,3 @@
-use Rattle.written_netlists.proofs.Engine.{whole-cards}
 use Rattle.written_netlists.proofs.Values.{NumberLaws}
 use Rattle.written_netlists.proofs.Whole.{reads_back}
 use Rattle.written_netlists.specs.Fits.{read_back}
@@ -14,7 +13,7 @@ returns c =
       back = c.printed_values_read_back.ensures;
       one = c.texts_have_one_number.ensures;
     } in
-    let reads = reads_back laws (whole-cards c.texts_have_one_number.ensures) c.nothing_shorted.ensures.network c.no_net_refusal.ensures.none in
+    let reads = reads_back laws c.whole_cards_are_read.ensures c.nothing_shorted.ensures.network c.no_net_refusal.ensures.none in
     record {
       reads = reads;
       alone = λ net names notes named can h.

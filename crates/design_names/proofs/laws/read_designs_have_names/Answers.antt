@@ -1,5 +1,0 @@
-use Rattle.design_names.proofs.Names.{names_are}
-use Rattle.design_names.proofs.laws.read_designs_have_names.Goals as goal
-
-pub returns : goal.returns
-returns c = names_are

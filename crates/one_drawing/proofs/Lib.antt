@@ -1,9 +1,14 @@
 pub mod Listed
 pub mod Ordered
+pub mod Standing
 pub mod Planned
+pub mod Likened
 pub mod Shaped
 pub mod Pieced
+pub mod Counted
+pub mod Sited
 pub mod Stacked
+pub mod Restacked
 pub mod Touched
+pub mod Allowed
 pub mod Refused
-pub mod Standing

@@ -1,6 +1,8 @@
 -- Lists that an order sorts are one where they have the same elements, and a list whose elements differ is no longer than
 -- one that has them all.
-use Rattle.std.proofs.Common.{◌≡◌, ◌≢◌, ℕ, zero, suc, ◌+◌, ◌<◌, ◌≤◌, ◌⊎◌, inl, inr, List, [], ◌∷◌, length, get_or, AllPairs, Contains, subst, refl, sym, ap, ◌∙◌, arith}
+use Rattle.std.proofs.Common.{◌≡◌, ◌≢◌, zero, suc, ◌+◌, ◌≤◌, ◌⊎◌, inl, inr, List, [], ◌∷◌, map, length, get_or, AllPairs, Contains, subst, refl, sym, ap, ◌∙◌, arith}
+use Rattle.std.proofs.lemmas.List.Elements.{All-map}
+use Rattle.std.proofs.lemmas.List.Kept.{AllPairs-cons}
 
 -- ## the first of a list and the others
 
@@ -22,6 +24,14 @@ pairs_later R x xs pairs i j d less within = pairs (suc i) (suc j) d (omega arit
 
 pub pairs_first : {X : Type 0} (R : X → X → Type 0) (x : X) (xs : List X) → AllPairs R (x ∷ xs) → (y : X) → Contains xs y → R x y
 pairs_first R x xs pairs y (k, within, is) = subst (R x) is (pairs 0 (suc k) y (omega arith) (omega arith))
+
+-- ## images
+
+pub pairs_map : {X Y : Type 0} (f : X → Y) (R : Y → Y → Type 0) (xs : List X) → AllPairs (λ (a b : X). R (f a) (f b)) xs → AllPairs R (map f xs)
+pairs_map f R [] pairs = λ i j d less within. absurd (omega arith)
+pairs_map {X} f R (x ∷ xs) pairs =
+    AllPairs-cons R (f x) (map f xs) (All-map (R (f x)) f xs (λ k d within. pairs 0 (suc k) d (omega arith) (omega arith)))
+    (pairs_map f R xs (pairs_later (λ (a b : X). R (f a) (f b)) x xs pairs))
 
 -- ## sorted lists
 

@@ -1,8 +1,8 @@
 -- Orders that never go both ways: of names, lines of straps, pieces, sites and places in a text.
-use Rattle.std.proofs.Common.{◌≡◌, ℕ, ◌<◌, ◌⊎◌, inl, inr, ℤ, ◌<ℤ◌, Bool, true, false, Ordering, List, [], ◌∷◌, subst, refl, sym, arith}
+use Rattle.std.proofs.Common.{◌≡◌, ℕ, inl, inr, ◌<ℤ◌, Bool, true, false, Ordering, List, [], ◌∷◌, subst, refl, sym, arith}
 use Rattle.std.specs.declared.cmp.Ordering.TheVariants.{Less, Equal, Greater}
 use Rattle.std.specs.Cmp.{IsTotalOrder, bool_cmp_total}
-use Rattle.std.specs.Ordering.{nat_cmp, int_cmp, bool_cmp, ordering_then, ordering_reverse, is_lt, is_gt}
+use Rattle.std.specs.Ordering.{nat_cmp, int_cmp, bool_cmp, ordering_reverse, is_lt, is_gt}
 use Rattle.std.proofs.lemmas.Bool.{false≢true}
 use Rattle.std.proofs.lemmas.Cmp.{nat_cmp_total, int_cmp_total, on_total, then_total}
 use Rattle.std.proofs.lemmas.Int.{ints}

@@ -1,7 +1,6 @@
 -- A script has one plan over a design, or one refusal of it.
-use Rattle.std.proofs.Common.{◌≡◌, ◌≢◌, ◌⊎◌, inl, inr, ℕ, zero, suc, ◌<◌, not, Bool, IsTrue, Option, Some, None, List, [], ◌∷◌, ◌++◌, map, filter, All, AllPairs, Contains, length, get_or, subst, refl, sym, ap, ◌∙◌, arith}
-use Rattle.std.specs.List.Sorted.{IsPermutation}
-use Rattle.std.proofs.lemmas.List.Elements.{All-map, Contains-append_cases, Contains-get_or}
+use Rattle.std.proofs.Common.{◌≡◌, ◌≢◌, ◌⊎◌, inl, inr, ℕ, not, List, [], ◌∷◌, ◌++◌, map, filter, AllPairs, Contains, get_or, subst, refl, sym, ap, ◌∙◌}
+use Rattle.std.proofs.lemmas.List.Elements.{Contains-append_cases, Contains-get_or}
 use Rattle.std.proofs.lemmas.List.Kept.{AllPairs-cons, AllPairs-filter}
 use Rattle.std.proofs.lemmas.List.Sorted.{IsPermutation-sym, Contains-permutation}
 use Rattle.entry_list.specs.InTurn.{InTurn}
@@ -25,18 +24,12 @@ use Rattle.grid_plan.specs.declared.order.PlacedConnect.{PlacedConnect}
 use Rattle.grid_plan.specs.declared.record.Plan.{Plan}
 use Rattle.grid_plan.specs.Names.{Names, names_of, AreNets, powers_of}
 use Rattle.grid_plan.specs.Resolved.{IsDomainAt, straps_of, ring_of, connect_of, ring_connect_of}
-use Rattle.grid_plan.specs.Planning.{Plans, IsPlanOf, IsPlanRefused, AreConnects, connects_in, stated_in, added_in, plan_refusal}
+use Rattle.grid_plan.specs.Planning.{Plans, IsPlanOf, IsPlanRefused, AreConnects, connects_in, stated_in, added_in}
 use Rattle.one_drawing.specs.Apart.{StandApart}
-use Rattle.one_drawing.proofs.Listed.{has_first, has_later, pairs_later, pairs_first, same_list}
+use Rattle.one_drawing.proofs.Listed.{has_first, has_later, pairs_map, pairs_later, pairs_first, same_list}
 use Rattle.one_drawing.proofs.Ordered.{names_one_way, IsEarlier, earlier_one_way, earlier_from}
 
 -- ## connects
-
-pairs_map : {X Y : Type 0} (f : X → Y) (R : Y → Y → Type 0) (xs : List X) → AllPairs (λ (a b : X). R (f a) (f b)) xs → AllPairs R (map f xs)
-pairs_map f R [] pairs = λ i j d less within. absurd (omega arith)
-pairs_map {X} f R (x ∷ xs) pairs =
-    AllPairs-cons R (f x) (map f xs) (All-map (R (f x)) f xs (λ k d within. pairs 0 (suc k) d (omega arith) (omega arith)))
-    (pairs_map f R xs (pairs_later (λ (a b : X). R (f a) (f b)) x xs pairs))
 
 pairs_append : {X : Type 0} (R : X → X → Type 0) (xs ys : List X) → AllPairs R xs → AllPairs R ys → ((x y : X) → Contains xs x → Contains ys y → R x y) → AllPairs R (xs ++ ys)
 pairs_append R [] ys front back across = back
@@ -107,21 +100,23 @@ one_domain names nets design domain a b x y =
     let upper = x.upper_net ∙ sym y.upper_net in
     λ i. record { region = region i; ground = lower i; power = upper i }
 
-pub one_plan : (tech : Tech) (cells : Cells) (design : Design) (script : Script) (a b : Plan) → StandApart script → IsPlanOf tech cells design script a → IsPlanOf tech cells design script b → a ≡ b
-one_plan tech cells design script a b apart a_is b_is =
+-- Two plans differ in the order of their connects at most.
+pub same_but_connects : (tech : Tech) (cells : Cells) (design : Design) (script : Script) (a b : Plan) → IsPlanOf tech cells design script a → IsPlanOf tech cells design script b
+    → b ≡ record a { connects = b.connects }
+same_but_connects tech cells design script a b a_is b_is =
     λ i. record {
-      units = units i;
-      die = die i;
-      nets = nets i;
-      power = power i;
-      domains = domains i;
-      grids = grids i;
-      rows = rows i;
-      straps = straps i;
-      rails = rails i;
-      rings = rings i;
-      connects = connects i;
-      blocks = blocks i;
+      units = sym units i;
+      die = sym die i;
+      nets = sym nets i;
+      power = sym power i;
+      domains = sym domains i;
+      grids = sym grids i;
+      rows = sym rows i;
+      straps = sym straps i;
+      rails = sym rails i;
+      rings = sym rings i;
+      connects = b.connects;
+      blocks = sym blocks i;
     }
   where
     names : Names
@@ -165,11 +160,22 @@ one_plan tech cells design script a b apart a_is b_is =
     rings : a.rings ≡ b.rings
     rings = x.rings ∙ ap (λ (n : List (List ℕ)). map (ring_of tech names n script design.units) script.rings) nets ∙ sym y.rings
 
-    connects : a.connects ≡ b.connects
-    connects = one_connects names script a.connects b.connects apart x.connects y.connects
-
     blocks : a.blocks ≡ b.blocks
     blocks = x.blocks ∙ sym y.blocks
+
+pub one_plan : (tech : Tech) (cells : Cells) (design : Design) (script : Script) (a b : Plan) → StandApart script → IsPlanOf tech cells design script a → IsPlanOf tech cells design script b → a ≡ b
+one_plan tech cells design script a b apart a_is b_is =
+    let connects : a.connects ≡ b.connects = one_connects (names_of tech cells design script) script a.connects b.connects apart a_is.plans.connects b_is.plans.connects in
+    ap (λ (c : List Connect). record a { connects = c }) connects ∙ sym (same_but_connects tech cells design script a b a_is b_is)
+
+-- A connect of one plan is one of the other too.
+pub connect_moves : (names : Names) (script : Script) (a b : List Connect) (c : Connect) → AreConnects names script a → AreConnects names script b → Contains a c → Contains b c
+connect_moves names script a b c x y has =
+    let placed = (Among-map (λ (p : PlacedConnect). p.connect) (λ (d : Connect). d ≡ c) x.placed).0 (c, subst (λ (l : List Connect). Contains l c) x.are has, refl) in
+    let all : Contains (connects_in names script) placed.0 = Contains-permutation x.placed (connects_in names script) placed.0 (IsPermutation-sym (connects_in names script) x.placed x.same) placed.1 in
+    let there : Contains y.placed placed.0 = Contains-permutation (connects_in names script) y.placed placed.0 y.same all in
+    let back = (Among-map (λ (p : PlacedConnect). p.connect) (λ (d : Connect). d ≡ c) y.placed).1 (placed.0, there, placed.2) in
+    subst (λ (l : List Connect). Contains l c) (sym y.are) (subst (Contains (map (λ (p : PlacedConnect). p.connect) y.placed)) back.2 back.1)
 
 -- ## its refusal
 

@@ -1,10 +1,10 @@
 -- A plan has one list of shapes, and none where a rule draws too many lines.
-use Rattle.std.proofs.Common.{◌≡◌, ◌≢◌, ◌⊎◌, inl, inr, ℕ, ◌*◌, ◌<◌, ◌≤◌, ℤ, ◌<ℤ◌, Bool, true, false, Some, List, [], ◌∷◌, ◌++◌, map, length, AllPairs, Contains, get_or, subst, refl, sym, ap, ◌∙◌, arith}
+use Rattle.std.proofs.Common.{◌≡◌, ◌⊎◌, inl, inr, ℕ, ◌*◌, ◌<◌, ◌≤◌, ℤ, ◌<ℤ◌, true, false, List, [], ◌∷◌, ◌++◌, map, length, Contains, get_or, subst, refl, sym, ap, ◌∙◌, arith}
 use Rattle.std.specs.List.{range_with_len}
 use Rattle.std.proofs.lemmas.Bool.{false≢true, cases_lt}
 use Rattle.std.proofs.lemmas.Int.{ints}
 use Rattle.std.proofs.lemmas.List.{length-map, get_or_past}
-use Rattle.std.proofs.lemmas.List.Elements.{All-contains, Contains-get_or}
+use Rattle.std.proofs.lemmas.List.Elements.{All-contains}
 use Rattle.std.proofs.lemmas.List.FromFn.{get_or-range_with_len, length-range_with_len}
 use Rattle.geom_rect.specs.declared.drawn.Drawn.{Drawn}
 use Rattle.geom_rect.specs.declared.rect.Rect.{Rect}
@@ -15,7 +15,7 @@ use Rattle.rail_layout.specs.declared.row.RowBox.{RowBox}
 use Rattle.rail_layout.specs.declared.rule.RailRule.{RailRule}
 use Rattle.rail_layout.specs.Rails.{rails_of}
 use Rattle.strap_layout.specs.declared.rule.StrapRule.{StrapRule}
-use Rattle.strap_layout.specs.Lines.{LineAt, AreStrapsOf, AreStraps, AreStrapsUpTo, IsDrawnLine, DrawsMore, ComesBefore, strap_of}
+use Rattle.strap_layout.specs.Lines.{LineAt, AreStrapsOf, AreStraps, IsDrawnLine, DrawsMore, ComesBefore, strap_of}
 use Rattle.grid_cores.specs.Core.{IsCore}
 use Rattle.grid_cores.specs.Owner.{LiesIn}
 use Rattle.grid_cores.specs.Line.{regions_over, over_run, AreLineShapes, AreLinesShapes}
@@ -25,11 +25,10 @@ use Rattle.grid_pieces.specs.Laws.Maximal.{maximal_among}
 use Rattle.grid_plan.specs.declared.record.GridAt.{GridAt}
 use Rattle.grid_plan.specs.declared.record.Plan.{Plan}
 use Rattle.grid_plan.specs.declared.record.Rails.{Rails}
-use Rattle.grid_plan.specs.declared.record.RingAt.{RingAt}
 use Rattle.grid_plan.specs.declared.record.Straps.{Straps}
-use Rattle.grid_shapes.specs.Shapes.{most_lines, IsCoreOf, DrawStraps, DrawRails, DrawSides, IsRailRule, Draws, AreOfEach, AreShapes, StrapsAreMany, RailsAreMany, SidesAreMany, LinesAreMany}
+use Rattle.grid_shapes.specs.Shapes.{most_lines, DrawStraps, DrawRails, DrawSides, IsRailRule, Draws, AreOfEach, AreShapes, StrapsAreMany, RailsAreMany, SidesAreMany, LinesAreMany}
 use Rattle.grid_shapes.specs.Site.{grid_of, rows_at, sides_at, strap_reaches, foreign}
-use Rattle.one_drawing.proofs.Listed.{has_first, has_cases, same_list, sorted_differ, no_longer}
+use Rattle.one_drawing.proofs.Listed.{has_cases, same_list, sorted_differ, no_longer}
 use Rattle.one_drawing.proofs.Ordered.{lines_one_way, runs_one_way}
 
 -- ## cores

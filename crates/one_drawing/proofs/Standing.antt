@@ -1,5 +1,5 @@
 -- The commands of a script that is read stand at different places.
-use Rattle.std.proofs.Common.{◌≡◌, ◌≢◌, ◌⊎◌, inl, inr, ℕ, zero, suc, ◌+◌, ◌==◌, ◌<◌, ◌≤◌, ◌||◌, Bool, true, false, cond, Option, Some, None, Ok, List, [], ◌∷◌, ◌++◌, map, All, AllPairs, Contains, length, get_or, subst, refl, sym, ap, ◌∙◌, arith}
+use Rattle.std.proofs.Common.{◌≡◌, ◌≢◌, ◌⊎◌, inl, inr, ℕ, ◌+◌, ◌==◌, ◌<◌, ◌≤◌, ◌||◌, Bool, true, false, cond, Option, Some, None, Ok, List, [], ◌∷◌, ◌++◌, map, All, AllPairs, Contains, length, get_or, subst, refl, sym, ap, ◌∙◌, arith}
 use Rattle.std.proofs.lemmas.Bool.{false≢true}
 use Rattle.std.proofs.lemmas.List.{append-nil}
 use Rattle.std.proofs.lemmas.Bool.Decides.{nat_tests}
@@ -7,14 +7,13 @@ use Rattle.std.proofs.lemmas.List.Elements.{All-append, All-nil, All-cons, All-c
 use Rattle.std.proofs.lemmas.List.Quantifiers.{all_pairs_push}
 use Rattle.outside.specs.declared.place.Place.{Place}
 use Rattle.text_lex.specs.declared.word.LexKind.{LexKind}
-use Rattle.text_lex.specs.declared.word.Form.{Form as SplitForm}
 use Rattle.text_lex.specs.Bytes.{line_feed, count_of}
 use Rattle.text_lex.specs.Piece.{Piece, White, Joined, Comment, Item, spelled}
-use Rattle.text_lex.specs.Split.{Split, IsSplit, words_from, last_from, place_after, first_place, split_from}
+use Rattle.text_lex.specs.Split.{Split, words_from, last_from, place_after, first_place, split_from}
 use Rattle.reading.specs.Pattern.{joined}
-use Rattle.reading.specs.Reading.{Format, Text}
+use Rattle.reading.specs.Reading.{Text}
 use Rattle.reading.specs.Outcome.{Hears}
-use Rattle.reading.specs.Word.{Token, word_of, form_of, end_at, text_with, seen_text}
+use Rattle.reading.specs.Word.{Token, word_of, end_at, seen_text}
 use Rattle.script_options.specs.declared.command.Command.{Command}
 use Rattle.script_options.specs.declared.command.Command.TheVariants as commands
 use Rattle.script_options.specs.Command.{command_named}
@@ -22,7 +21,7 @@ use Rattle.pdn_script.specs.declared.record.Connect.{Connect}
 use Rattle.pdn_script.specs.declared.record.Ring.{Ring}
 use Rattle.pdn_script.specs.declared.record.Script.{Script}
 use Rattle.pdn_script.specs.Known.{nothing_known, known_after}
-use Rattle.pdn_script.specs.Record.{SaysCommand, SaysFirst, SaysUnless, Says, Told, with_statement, script_from, no_commands, IsScript}
+use Rattle.pdn_script.specs.Record.{SaysCommand, SaysUnless, Told, with_statement, script_from, no_commands}
 use Rattle.pdn_script.specs.Sort.{is_end}
 use Rattle.pdn_script.specs.Format.{format, ReadsScript}
 use Rattle.one_drawing.specs.Apart.{StandApart}

@@ -3,6 +3,4 @@
 
 mod laws;
 
-pub use laws::{
-    drawn_or_refused, one_drawing, one_refusal_of_drawing, read_commands_stand_apart,
-};
+pub use laws::{drawn_or_refused, one_drawing, one_refusal_of_drawing, read_commands_stand_apart};

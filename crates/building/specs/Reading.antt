@@ -6,12 +6,17 @@ use Rattle.answers.specs.declared.answer.Answer.TheVariants.{Want, Refused}
 use Rattle.answers.specs.declared.kind.TextKind.{TextKind}
 use Rattle.reading.specs.declared.error.ReadError.{ReadError}
 use Rattle.lef_tech.specs.Format.{ReadsTech}
+use Rattle.lef_tech.specs.Limits.{TechKeeps}
 use Rattle.lef_cells.specs.declared.record.Cells.{Cells}
 use Rattle.lef_cells.specs.Format.{ReadsCells}
 use Rattle.lef_cells.specs.Join.{joined}
+use Rattle.lef_cells.specs.Limits.{CellsKeep}
 use Rattle.def_design.specs.Format.{ReadsDesign}
+use Rattle.def_design.specs.Limits.{DesignKeeps}
 use Rattle.pdn_script.specs.Format.{ReadsScript}
+use Rattle.pdn_script.specs.Limits.{ScriptKeeps}
 use Rattle.bias_file.specs.Format.{ReadsBias}
+use Rattle.bias_file.specs.Limits.{BiasKeeps}
 use Rattle.building.specs.declared.records.Records.{Records}
 use Rattle.building.specs.Inputs.{FileText, FiveTexts}
 use Rattle.building.specs.Kinds.{tech_kind, cells_kind, def_kind, script_kind, bias_kind}
@@ -25,13 +30,23 @@ pub record AreCellsOf (lef other : List ℕ) (cells : Cells) : Type 0 where
   pub sites : cells.sites ≡ joined (λ site. site.name) first.sites second.sites
   pub macros : cells.macros ≡ joined (λ cell. cell.name) first.macros second.macros
 
--- Each text has its record: the technology, the cells of both LEF texts, the design, the script and the bias file.
+-- The records keep the limits of their formats.
+pub record RecordsKeep (r : Records) : Type 0 where
+  pub tech : TechKeeps r.tech
+  pub cells : CellsKeep r.cells
+  pub design : DesignKeeps r.design
+  pub script : ScriptKeeps r.script
+  pub bias : BiasKeeps r.bias
+
+-- Each text has its record: the technology, the cells of both LEF texts, the design, the script and the bias file; and these
+-- keep the limits of their formats.
 pub record AreRecords (t : FiveTexts) (r : Records) : Type 0 where
   pub tech : ReadsTech t.lef.text (Ok r.tech)
   pub cells : AreCellsOf t.lef.text t.cells.text r.cells
   pub design : ReadsDesign t.def.text (Ok r.design)
   pub script : ReadsScript t.pdn.text (Ok r.script)
   pub bias : ReadsBias t.bias.text (Ok r.bias)
+  pub kept : RecordsKeep r
 
 -- The answer to a text that is refused at a place; none is the kind of want of memory.
 abbrev pub text_answer : List ℕ → Place → Option TextKind → Answer

@@ -4,8 +4,9 @@ ghost use Rattle.answers.specs.declared.answer.Answer.TheVariants.{Want, NoGrid}
 ghost use Rattle.grid_extract.specs.Extraction.{GridKeeps};
 ghost use Rattle.refusal_words.specs.Words.{extract_words};
 ghost use Rattle.building.specs.Building.{IsGridOf, IsNetworkOfGrid};
+ghost use Rattle.building.specs.Reading.{RecordsKeep};
 ghost use Rattle.building.specs.Refusal.{draw_answer, net_answer, extract_answer};
-ghost use Rattle.building.specs.inside.Stages.{RecordsKeep, GridStands, IsUndrawn, IsUnextracted};
+ghost use Rattle.building.specs.inside.Stages.{GridStands, IsUndrawn, IsUnextracted};
 
 use crate::records::Records;
 use answers::Answer;

@@ -13,8 +13,8 @@ ghost use Rattle.bias_file.specs.Format.{ReadsBias};
 ghost use Rattle.bias_file.specs.Limits.{BiasKeeps};
 ghost use Rattle.building.specs.Inputs.{file_text, five_texts};
 ghost use Rattle.building.specs.Kinds.{tech_kind, cells_kind, def_kind, script_kind, bias_kind};
-ghost use Rattle.building.specs.Reading.{text_answer, AreCellsOf, AreRecords, IsRefused, IsUnread};
-ghost use Rattle.building.specs.inside.Stages.{RecordsKeep, AreCellsRefused};
+ghost use Rattle.building.specs.Reading.{text_answer, RecordsKeep, AreCellsOf, AreRecords, IsRefused, IsUnread};
+ghost use Rattle.building.specs.inside.Stages.{AreCellsRefused};
 
 use crate::input::{Input, Inputs};
 use crate::kinds::{bias_kind, cells_kind, def_kind, script_kind, tech_kind};

@@ -3,9 +3,10 @@ ghost use Rattle.std.specs.Prelude.{◌≡◌, IsOk, IfOk, IfErr};
 ghost use Rattle.outside.specs.Counts.{Rose};
 ghost use Rattle.building.specs.Building.{Design, IsGridOf, IsDesignOf, AreOutputsOf};
 ghost use Rattle.building.specs.Inputs.{five_texts};
+ghost use Rattle.building.specs.Reading.{RecordsKeep};
 ghost use Rattle.building.specs.Refusal.{IsUnbuilt};
 ghost use Rattle.building.specs.Solutions.{SolutionsKeep};
-ghost use Rattle.building.specs.inside.Stages.{RecordsKeep, GridStands, IsBuiltOf, IsUnbuiltOf, SignsGrid, IsUnsigned};
+ghost use Rattle.building.specs.inside.Stages.{GridStands, IsBuiltOf, IsUnbuiltOf, SignsGrid, IsUnsigned};
 
 use crate::drawing::{grid_of, network_of};
 use crate::input::Inputs;

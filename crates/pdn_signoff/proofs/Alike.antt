@@ -43,7 +43,7 @@ alike_solved a b nodes nodes' resistors resistors' sweeps sweeps' is is' n r =
     subst (λ x. AreAlike x b) (sym is) (sweeps', is' ∙ ap (λ x. Solved x resistors' sweeps') (sym n) ∙ ap (λ x. Solved nodes x sweeps') (sym r))
 
 -- Two answers are related, where those of each of two kinds are, and the kinds exclude each other.
-of_two : (R : Answer → Answer → Type 0) (P Q : Answer → Type 0) → ((a b : Answer) → P a → P b → R a b) → ((a b : Answer) → Q a → Q b → R a b) → ((a b : Answer) → P a → Q b → ⊥) → (a b : Answer) → (P a ⊎ Q a) → (P b ⊎ Q b) → R a b
+pub of_two : (R : Answer → Answer → Type 0) (P Q : Answer → Type 0) → ((a b : Answer) → P a → P b → R a b) → ((a b : Answer) → Q a → Q b → R a b) → ((a b : Answer) → P a → Q b → ⊥) → (a b : Answer) → (P a ⊎ Q a) → (P b ⊎ Q b) → R a b
 of_two R P Q one_p one_q apart a b (inl x) (inl y) = one_p a b x y
 of_two R P Q one_p one_q apart a b (inl x) (inr y) = absurd (apart a b x y)
 of_two R P Q one_p one_q apart a b (inr x) (inl y) = absurd (apart b a y x)

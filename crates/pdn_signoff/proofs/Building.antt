@@ -18,10 +18,10 @@ use Rattle.std.specs.Borrow.{Bor}
 use Rattle.input_files.specs.Inputs.{names_of, name_at, AreTextsOf, EachFits, ReadFails}
 use Rattle.output_files.specs.Outputs.{names, text_at}
 use Rattle.pdn_signoff.specs.declared.build_files.BuildFiles.{BuildFiles}
-use Rattle.pdn_signoff.specs.Check.{FilesThen, NoneFailed, ReadFailed, IsTextOf, IsTooLong}
+use Rattle.pdn_signoff.specs.Check.{FilesThen, NoneFailed, IsTextOf, IsTooLong}
 use Rattle.pdn_signoff.specs.Solve.{SolverThen, IsKept, WriteFailed}
 use Rattle.pdn_signoff.specs.Outputs.{AreWritten, Stops}
-use Rattle.pdn_signoff.specs.Build.{files_read, files_written, output_texts, IsInput, AreInputs, BuildsFiles, IsFirstUnread, Builds}
+use Rattle.pdn_signoff.specs.Build.{files_read, files_written, output_texts, IsInput, AreInputs, BuildsFiles, IsFirstUnread, FailsToRead, Builds}
 use Rattle.pdn_signoff.specs.Command.{ChangesAmong}
 use Rattle.pdn_signoff.specs.inside.Check.{unread_answer}
 use Rattle.pdn_signoff.specs.inside.Build.{AreRead, five_of, WritesBuilt}
@@ -80,9 +80,9 @@ module _ (known : Option Holdings) (f : BuildFiles) (read : List (Bor (List ℕ)
   }
 
 -- A read that failed, as it is told.
-pub read_failed : (before after : FilesThen) (file other : List ℕ) → file ≡ other → ReadFails before.known file before.counts after.counts → ReadFailed before after other
+pub read_failed : (before after : FilesThen) (file other : List ℕ) → file ≡ other → ReadFails before.known file before.counts after.counts → FailsToRead before after other
 read_failed before after file other same fails =
-    subst (ReadFailed before after) same (record { fault = fails.fault; failed_read = fails.failed_read })
+    subst (FailsToRead before after) same (record { failed = record { fault = fails.fault; failed_read = fails.failed_read }; only = fails.only })
 
 -- The texts that were read.
 pub are_read : (known : Option Holdings) (f : BuildFiles) (read : List (Bor (List ℕ))) (texts : List (List ℕ)) → names_of read ≡ files_read f → length texts ≡ length read → IfSome known (λ held. AreTextsOf held (names_of read) texts) → All (λ text. length text ≤ longest_text) texts
@@ -98,13 +98,13 @@ module _ (solver solver' : SolverThen) (before after : FilesThen) (f : BuildFile
   Cause answer = Builds solver solver' before after f answer
 
   -- A file was not read.
-  of_error : IsKept before after → (e : ReadError) (file : List ℕ) (place : ℕ) → IsFirstUnread before.known f file place → (e ≡ reading.ReadFault → ReadFailed before after file) → (e ≡ reading.TooLong → IsTooLong before.known file) → (e ≡ reading.TooLong → NoneFailed before after)
+  of_error : IsKept before after → (e : ReadError) (file : List ℕ) (place : ℕ) → IsFirstUnread before.known f file place → (e ≡ reading.ReadFault → FailsToRead before after file) → (e ≡ reading.TooLong → IsTooLong before.known file) → (e ≡ reading.TooLong → NoneFailed before after)
       → Cause (unread_answer e file)
   of_error kept reading.ReadFault file place first fault long calm = (kept, (place, first, fault refl))
   of_error kept reading.TooLong file place first fault long calm = (kept, calm refl, (place, first, long refl))
   of_error kept reading.Want file place first fault long calm = inl kept
 
-  pub file_unread : IsKept before after → (e : ReadError) (file : List ℕ) (place : ℕ) → IsFirstUnread before.known f file place → (e ≡ reading.ReadFault → ReadFailed before after file) → (e ≡ reading.TooLong → IsTooLong before.known file) → (e ≡ reading.TooLong → NoneFailed before after)
+  pub file_unread : IsKept before after → (e : ReadError) (file : List ℕ) (place : ℕ) → IsFirstUnread before.known f file place → (e ≡ reading.ReadFault → FailsToRead before after file) → (e ≡ reading.TooLong → IsTooLong before.known file) → (e ≡ reading.TooLong → NoneFailed before after)
       → (answer : Answer) → ((answer ≡ Want) ⊎ (answer ≡ unread_answer e file)) → Cause answer
   file_unread kept e file place first fault long calm answer (inl want) = subst Cause (sym want) (inl kept)
   file_unread kept e file place first fault long calm answer (inr told) = subst Cause (sym told) (of_error kept e file place first fault long calm)

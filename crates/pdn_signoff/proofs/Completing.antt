@@ -72,13 +72,26 @@ same_text : (held : Holdings) (file : List ℕ) (a b : FileText) → IsInput (So
 same_text held file a b one other =
     ap (λ (f : List ℕ). the_text (record { file = f; text = a.text })) (one.file_is ∙ sym other.file_is) ∙ ap (λ (t : List ℕ). the_text (record { file = b.file; text = t })) (one.text_is ∙ sym other.text_is)
 
-same_texts : (held : Holdings) (f : BuildFiles) (a b : FiveTexts) → AreInputs (Some held) f a → AreInputs (Some held) f b → a ≡ b
+pub same_texts : (held : Holdings) (f : BuildFiles) (a b : FiveTexts) → AreInputs (Some held) f a → AreInputs (Some held) f b → a ≡ b
 same_texts held f a b one other =
     ap (λ (x : FileText). the_texts (record { lef = x; cells = a.cells; def = a.def; pdn = a.pdn; bias = a.bias })) (same_text held f.lef a.lef b.lef one.lef other.lef)
     ∙ ap (λ (x : FileText). the_texts (record { lef = b.lef; cells = x; def = a.def; pdn = a.pdn; bias = a.bias })) (same_text held f.cells a.cells b.cells one.cells other.cells)
     ∙ ap (λ (x : FileText). the_texts (record { lef = b.lef; cells = b.cells; def = x; pdn = a.pdn; bias = a.bias })) (same_text held f.def a.def b.def one.def other.def)
     ∙ ap (λ (x : FileText). the_texts (record { lef = b.lef; cells = b.cells; def = b.def; pdn = x; bias = a.bias })) (same_text held f.pdn a.pdn b.pdn one.pdn other.pdn)
     ∙ ap (λ (x : FileText). the_texts (record { lef = b.lef; cells = b.cells; def = b.def; pdn = b.pdn; bias = x })) (same_text held f.bias a.bias b.bias one.bias other.bias)
+
+-- Each of the files has at most as many bytes as an input may have.
+module _ (held : Holdings) (f : BuildFiles) (t : FiveTexts) (texts : AreInputs (Some held) f t) where
+  fits : (file : List ℕ) (x : FileText) → IsInput (Some held) file x → length (bytes_in held file) ≤ longest_text
+  fits file x input = subst (λ (y : List ℕ). length y ≤ longest_text) input.text_is input.fits
+
+  pub each_fits : (place : ℕ) → place < 5 → length (bytes_in held (name_at (files_read f) place)) ≤ longest_text
+  each_fits zero below = fits f.lef t.lef texts.lef
+  each_fits (suc zero) below = fits f.cells t.cells texts.cells
+  each_fits (suc (suc zero)) below = fits f.def t.def texts.def
+  each_fits (suc (suc (suc zero))) below = fits f.pdn t.pdn texts.pdn
+  each_fits (suc (suc (suc (suc zero)))) below = fits f.bias t.bias texts.bias
+  each_fits (suc (suc (suc (suc (suc n))))) below = absurd (omega (arith, below))
 
 module _ (solver solver' : SolverThen) (before after : FilesThen) (held : Holdings) (known : before.known ≡ Some held) (f : BuildFiles) (t : FiveTexts) (accepted : AreAccepted held f t) where
   -- No text is refused.
@@ -87,27 +100,16 @@ module _ (solver solver' : SolverThen) (before after : FilesThen) (held : Holdin
       let here : AreInputs (Some held) f t' = subst (λ k. AreInputs k f t') known are in
       accepted.accepted answer (subst (λ (x : FiveTexts). IsUnbuilt x answer) (same_texts held f t' t here accepted.texts) why)
 
-  fits : (file : List ℕ) (x : FileText) → IsInput (Some held) file x → length (bytes_in held file) ≤ longest_text
-  fits file x input = subst (λ (y : List ℕ). length y ≤ longest_text) input.text_is input.fits
-
-  each_fits : (place : ℕ) → place < 5 → length (bytes_in held (name_at (files_read f) place)) ≤ longest_text
-  each_fits zero below = fits f.lef t.lef accepted.texts.lef
-  each_fits (suc zero) below = fits f.cells t.cells accepted.texts.cells
-  each_fits (suc (suc zero)) below = fits f.def t.def accepted.texts.def
-  each_fits (suc (suc (suc zero))) below = fits f.pdn t.pdn accepted.texts.pdn
-  each_fits (suc (suc (suc (suc zero)))) below = fits f.bias t.bias accepted.texts.bias
-  each_fits (suc (suc (suc (suc (suc n))))) below = absurd (omega (arith, below))
-
   none_long : (file : List ℕ) (place : ℕ) → IsFirstUnread before.known f file place → ¬ IsTooLong before.known file
   none_long file place first long =
       let more : longest_text < length (bytes_in held file) = subst (λ k. IsTooLong k file) known long in
-      absurd (omega (arith, more, subst (λ (x : List ℕ). length (bytes_in held x) ≤ longest_text) (sym first.is) (each_fits place first.below)))
+      absurd (omega (arith, more, subst (λ (x : List ℕ). length (bytes_in held x) ≤ longest_text) (sym first.is) (each_fits held f t accepted.texts place first.below)))
 
   -- Where no call on the files fails, the texts are built, or memory ran out.
   pub built_whole : ¬ Rose before.counts.faults after.counts.faults → (answer : Answer) → Builds solver solver' before after f answer → (status_of answer ≡ 0) ⊎ ((status_of answer ≡ 1) ⊎ (status_of answer ≡ 10))
   built_whole calm Usage why = absurd why
   built_whole calm Want why = inr (inr refl)
-  built_whole calm (ReadFault file) (kept, (place, first, failed)) = absurd (calm failed.fault)
+  built_whole calm (ReadFault file) (kept, (place, first, fails)) = absurd (calm fails.failed.fault)
   built_whole calm (WriteFault file) (outputs, builds, stops) = absurd (calm (failed_write solver solver' before after f outputs file stops).fault)
   built_whole calm (TooLong file) (kept, none, (place, first, long)) = absurd (none_long file place first long)
   built_whole calm (Refused file place kind) why = let clash = none_refused (Refused file place kind) why in cc

@@ -5,6 +5,7 @@ mod Completing
 mod Exclude
 mod Generating
 mod Making
+mod Once
 mod Signing
 mod Solving
 mod Stopping

@@ -1,10 +1,11 @@
 -- What `build` answers, and what has to be so where it gives each answer.
 use Rattle.std.specs.Prelude.{◌≡◌, ◌≤◌, ◌<◌, ◌⊎◌, ℕ, ℤ, List, [], ◌∷◌, Option, Some, IfSome, length, take}
-use Rattle.outside.specs.Counts.{Rose}
+use Rattle.outside.specs.Counts.{ChangesReads, Rose}
 use Rattle.outside.specs.Files.{Holdings}
 use Rattle.outside.specs.Whole.{longest_text}
 use Rattle.answers.specs.Answer.{built_status}
 use Rattle.answers.specs.declared.answer.Answer.{Answer}
+use Rattle.answers.specs.declared.built.Built.{Built as Numbers}
 use Rattle.answers.specs.declared.answer.Answer.TheVariants.{Usage, Want, ReadFault, WriteFault, TooLong, Refused, NoGrid, Range, PadConflict, Unsupplied, Built, Generated, Solved, Certified, NotCertified}
 use Rattle.building.specs.declared.outputs.Outputs.{Outputs}
 use Rattle.building.specs.Building.{Design, IsDesignOf, AreOutputsOf}
@@ -68,12 +69,17 @@ pub record IsFirstUnread (known : Option Holdings) (f : BuildFiles) (file : List
   pub is : file ≡ name_at (files_read f) place
   pub earlier : IfSome known (λ held. EachFits held longest_text (take place (files_read f)))
 
+-- A read of the file failed between two moments, and of no file of another name.
+pub record FailsToRead (before after : FilesThen) (file : List ℕ) : Type 0 where
+  pub failed : ReadFailed before after file
+  pub only : ChangesReads file before.counts after.counts
+
 -- Why `build` over these files gives an answer: each answer with what has to be so, and with what the files hold then. The
 -- five files are read and their texts built, and then the four outputs are written; what comes later is answered only where
 -- nothing earlier is refused. Where it is built, the solver was asked.
 abbrev pub Builds : SolverThen → SolverThen → FilesThen → FilesThen → BuildFiles → Answer → Type 0
 Builds solver solver' before after f (ReadFault file) =
-    IsKept before after × ((place : ℕ) × IsFirstUnread before.known f file place × ReadFailed before after file)
+    IsKept before after × ((place : ℕ) × IsFirstUnread before.known f file place × FailsToRead before after file)
 Builds solver solver' before after f (TooLong file) =
     IsKept before after × NoneFailed before after
     × ((place : ℕ) × IsFirstUnread before.known f file place × IsTooLong before.known file)
@@ -114,3 +120,17 @@ pub record LeavesBuilt (told : Option (List ℤ × List ℤ)) (f : BuildFiles) (
 pub record AreAccepted (held : Holdings) (f : BuildFiles) (t : FiveTexts) : Type 0 where
   pub texts : AreInputs (Some held) f t
   pub accepted : (answer : Answer) → IsUnbuilt t answer → answer ≡ Want
+
+-- Two lines of `build` tell of one grid and one network; the verdicts and the sweeps may be those of different tight
+-- certificates of that network.
+pub record TellOneGrid (one other : Numbers) : Type 0 where
+  pub pieces : one.pieces ≡ other.pieces
+  pub stacks : one.stacks ≡ other.stacks
+  pub nodes : one.nodes ≡ other.nodes
+  pub resistors : one.resistors ≡ other.resistors
+  pub pads : one.pads ≡ other.pads
+
+-- Two answers of `build` are one, or both tell of one grid and one network that are built.
+abbrev pub AreBuiltAlike : Answer → Answer → Type 0
+AreBuiltAlike (Built one) b = (other : Numbers) × (b ≡ Built other) × TellOneGrid one other
+AreBuiltAlike a b = a ≡ b

@@ -20,7 +20,7 @@ ghost use Rattle.pdn_signoff.specs.Command.{IsCause, CanRise, Ends, PrintEnds, I
 ghost use Rattle.pdn_signoff.specs.Generate.{file_names, design_texts};
 ghost use Rattle.building.specs.Inputs.{FiveTexts};
 ghost use Rattle.pdn_signoff.specs.declared.build_files.BuildFiles.{BuildFiles as BuildNames};
-ghost use Rattle.pdn_signoff.specs.Build.{files_written, LeavesBuilt, AreAccepted};
+ghost use Rattle.pdn_signoff.specs.Build.{files_written, LeavesBuilt, AreAccepted, AreBuiltAlike};
 ghost use Rattle.pdn_signoff.specs.Words.{IsCheck, IsSolve, IsGenerate, IsBuild, IsNotSolve, IsNotBuild, WriteNothing, IsUsage};
 
 use crate::build::build;
@@ -34,6 +34,7 @@ use bound_check::no_failing_test;
 use command_words::{Command, WordsError, read, words_have_one_command};
 use grid_net::Solver;
 use judging::{answers_to_texts, texts_are_judged_once};
+use one_design::texts_have_one_design;
 use outside::{Argv, Files, Sink, WriteError, send};
 use solving::netlists_are_solved_once;
 use std::alloc::Global;
@@ -343,9 +344,8 @@ fn print<O: Sink>(out: &mut O, line: &[u8], status: u8) -> u8
 }
 
 /// Where it is known what the files hold and no count stands at its last value, one answer alone, want of memory aside,
-/// has its cause: so each of them comes exactly where its cause holds. Of `solve` this leaves open the number of sweeps. Of
-/// `build` nothing is said here. Of
-/// `build` nothing is said here.
+/// has its cause: so each of them comes exactly where its cause holds. Of `solve` this leaves open the number of sweeps, and of
+/// `build` sweeps and verdicts, which another tight certificate of the same network may change.
 pub fn one_answer_has_its_cause()
     ensures one { (words : List (List ℕ)) (solver solver' : SolverThen) (before after : FilesThen) (held : Holdings)
         (a b : Told) → before.known ≡ Some held → CanRise after.counts → IsNotSolve words → IsNotBuild words
@@ -356,8 +356,13 @@ pub fn one_answer_has_its_cause()
         → IsSolve words netlist certificate report
         → IsCause words solver solver' before after a → IsCause words solver solver' before after b
         → a ≢ Want → b ≢ Want → AreAlike a b }
+    ensures built { (words : List (List ℕ)) (solver solver' : SolverThen) (before after : FilesThen) (held : Holdings)
+        (names : BuildNames) (a b : Told) → before.known ≡ Some held → CanRise after.counts → IsBuild words names
+        → IsCause words solver solver' before after a → IsCause words solver solver' before after b
+        → a ≢ Want → b ≢ Want → AreBuiltAlike a b }
 {
     texts_are_judged_once();
     netlists_are_solved_once();
+    texts_have_one_design();
     words_have_one_command();
 }

@@ -21,25 +21,12 @@ use Rattle.grid_network.specs.declared.error.ExtractError.{ExtractError}
 use Rattle.grid_pieces.specs.declared.error.DrawError.{DrawError}
 use Rattle.grid_pieces.specs.declared.grid.Grid.{Grid}
 use Rattle.grid_shapes.specs.Drawing.{IsDrawRefused, PieceStands, StackStands}
-use Rattle.lef_tech.specs.Limits.{TechKeeps}
 use Rattle.lef_cells.specs.Format.{ReadsCells}
-use Rattle.lef_cells.specs.Limits.{CellsKeep}
-use Rattle.def_design.specs.Limits.{DesignKeeps}
-use Rattle.pdn_script.specs.Limits.{ScriptKeeps}
-use Rattle.bias_file.specs.Limits.{BiasKeeps}
 use Rattle.building.specs.declared.records.Records.{Records}
 use Rattle.building.specs.Inputs.{FileText}
 use Rattle.building.specs.Kinds.{cells_kind}
 use Rattle.building.specs.Reading.{IsRefused, HasRecord}
 use Rattle.building.specs.Refusal.{draw_answer, extract_answer}
-
--- The records keep the limits of their formats.
-pub record RecordsKeep (r : Records) : Type 0 where
-  pub tech : TechKeeps r.tech
-  pub cells : CellsKeep r.cells
-  pub design : DesignKeeps r.design
-  pub script : ScriptKeeps r.script
-  pub bias : BiasKeeps r.bias
 
 -- Why two texts give no cells: memory ran out, the first is refused, or the second is and the first is not.
 abbrev pub AreCellsRefused : (lef other : FileText) → Answer → Type 0

@@ -1,6 +1,7 @@
 use Rattle.pdn_signoff.proofs.Alike.{alike}
 use Rattle.pdn_signoff.proofs.Causes.{AreLaws}
 use Rattle.pdn_signoff.proofs.Exclude.{one_answer}
+use Rattle.pdn_signoff.proofs.Once.{AreDesignLaws, built_once}
 use Rattle.pdn_signoff.proofs.Signing.{AreSolvingLaws}
 use Rattle.pdn_signoff.proofs.command.one_answer_has_its_cause.Goals as goal
 
@@ -24,3 +25,14 @@ returns-clause-solved c =
     } in
     let solving : AreSolvingLaws = record { refusal = c.netlists_are_solved_once.ensures.refusal; supply = c.netlists_are_solved_once.ensures.supply; network = c.netlists_are_solved_once.ensures.network } in
     alike laws solving
+
+pub returns-clause-built : goal.returns-clause-built
+returns-clause-built c =
+    let laws : AreLaws = record {
+      one = c.texts_are_judged_once.ensures.one;
+      tested = c.texts_are_judged_once.ensures.tested;
+      bounded = c.texts_are_judged_once.ensures.bounded;
+      one_command = c.words_have_one_command.ensures;
+    } in
+    let design : AreDesignLaws = record { refusal = c.texts_have_one_design.ensures.refusal; apart = c.texts_have_one_design.ensures.apart; design = c.texts_have_one_design.ensures.design } in
+    built_once laws design

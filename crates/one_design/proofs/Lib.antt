@@ -1,0 +1,4 @@
+mod Texts
+mod Records
+mod Stages
+mod Built

@@ -1,0 +1,46 @@
+//! A law of the definitions, on a function that does nothing of its own.
+ghost use Rattle.std.specs.Prelude.{◌≡◌, ◌≢◌, ℤ, List, Option};
+ghost use Rattle.answers.specs.declared.answer.Answer.{Answer as Told};
+ghost use Rattle.answers.specs.declared.answer.Answer.TheVariants.{Want};
+ghost use Rattle.building.specs.Building.{Design, IsDesignOf};
+ghost use Rattle.building.specs.Inputs.{FiveTexts};
+ghost use Rattle.building.specs.Refusal.{IsUnbuilt};
+ghost use Rattle.one_design.specs.Same.{AreSameButCertificates};
+
+use bias_file::texts_have_one_bias;
+use def_design::texts_have_one_design as designs_have_one_record;
+use lef_cells::texts_have_one_record as cells_have_one_record;
+use lef_tech::texts_have_one_tech;
+use one_drawing::{
+    drawn_or_refused, one_drawing, one_refusal_of_drawing, read_commands_stand_apart,
+};
+use one_network::{
+    extracted_or_refused, one_first_unsupplied, one_list_of_limits, one_network,
+    one_refusal_of_extraction,
+};
+use pdn_script::texts_have_one_script;
+
+/// Five texts have one design, but for the certificate of its network, or one answer that tells why nothing is built of
+/// them, and not both; want of memory aside.
+pub fn texts_have_one_design()
+    ensures refusal { (t : FiveTexts) (a b : Told) → IsUnbuilt t a → IsUnbuilt t b → a ≢ Want → b ≢ Want → a ≡ b }
+    ensures apart { (told : Option (List ℤ × List ℤ)) (t : FiveTexts) (design : Design) (a : Told)
+        → IsDesignOf told t design → IsUnbuilt t a → a ≡ Want }
+    ensures design { (told told' : Option (List ℤ × List ℤ)) (t : FiveTexts) (one other : Design)
+        → IsDesignOf told t one → IsDesignOf told' t other → AreSameButCertificates one other }
+{
+    texts_have_one_tech();
+    cells_have_one_record();
+    designs_have_one_record();
+    texts_have_one_script();
+    texts_have_one_bias();
+    read_commands_stand_apart();
+    one_drawing();
+    one_refusal_of_drawing();
+    drawn_or_refused();
+    one_network();
+    one_refusal_of_extraction();
+    extracted_or_refused();
+    one_list_of_limits();
+    one_first_unsupplied();
+}

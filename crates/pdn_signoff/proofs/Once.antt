@@ -1,0 +1,263 @@
+-- Of the answers of `build` other than want of memory one alone has its cause, where it is known what the files hold; verdicts
+-- and sweeps of a grid that is built are left open.
+use Rattle.std.proofs.Common.{◌≡◌, ◌≢◌, ◌≤◌, ◌<◌, ◌⊎◌, inl, inr, ℕ, ℤ, Bool, true, false, List, [], Option, Some, length, take, get_or, refl, sym, ap, subst, ◌∙◌, arith}
+use Rattle.std.specs.Prelude.{bytes_eq}
+use Rattle.std.proofs.lemmas.Bool.{cases_order}
+use Rattle.std.proofs.lemmas.List.{get_or-take, length-take}
+use Rattle.std.proofs.lemmas.Slice.Eq.{bytes_eq-Decides}
+use Rattle.outside.specs.Counts.{FaultCounts, ChangesReads, Rose}
+use Rattle.outside.specs.Files.{Holdings, bytes_in}
+use Rattle.outside.specs.Whole.{longest_text}
+use Rattle.answers.specs.declared.answer.Answer.{Answer}
+use Rattle.answers.specs.declared.answer.Answer.TheVariants.{Usage, Want, ReadFault, WriteFault, TooLong, Refused, NoGrid, Range, PadConflict, Unsupplied, Built, Generated, Solved, Certified, NotCertified}
+use Rattle.answers.specs.declared.built.Built.{Built as Numbers}
+use Rattle.bound_check.specs.Certified.{Certificate}
+use Rattle.building.specs.Building.{Design, IsDesignOf, AreOutputsOf, numbers_of}
+use Rattle.building.specs.Inputs.{FiveTexts}
+use Rattle.building.specs.Refusal.{IsUnbuilt}
+use Rattle.grid_net.specs.Network.{Network}
+use Rattle.grid_network.specs.declared.extracted.Extracted.{Extracted}
+use Rattle.grid_pieces.specs.declared.grid.Grid.{Grid}
+use Rattle.input_files.specs.Inputs.{name_at, EachFits}
+use Rattle.one_design.specs.Same.{AreSameButCertificates}
+use Rattle.pdn_signoff.specs.declared.build_files.BuildFiles.{BuildFiles}
+use Rattle.pdn_signoff.specs.Words.{IsBuild}
+use Rattle.pdn_signoff.specs.Check.{FilesThen, NoneFailed, IsTooLong}
+use Rattle.pdn_signoff.specs.Solve.{SolverThen, WriteFailed}
+use Rattle.pdn_signoff.specs.Build.{files_read, AreInputs, BuildsFiles, RefusesFiles, IsFirstUnread, FailsToRead, TellOneGrid, AreBuiltAlike, Builds}
+use Rattle.pdn_signoff.specs.Command.{IsCause, CanRise}
+use Rattle.pdn_signoff.proofs.Alike.{of_two}
+use Rattle.pdn_signoff.proofs.Building.{failed_write}
+use Rattle.pdn_signoff.proofs.Causes.{AreLaws, of_held}
+use Rattle.pdn_signoff.proofs.Completing.{build_cause, same_texts, each_fits}
+use Rattle.pdn_signoff.proofs.Exclude.{rose_or_stays}
+
+-- The laws of five texts, as they are handed in.
+pub record AreDesignLaws : Type 0 where
+  pub refusal : (t : FiveTexts) (a b : Answer) → IsUnbuilt t a → IsUnbuilt t b → a ≢ Want → b ≢ Want → a ≡ b
+  pub apart : (told : Option (List ℤ × List ℤ)) (t : FiveTexts) (design : Design) (a : Answer) → IsDesignOf told t design → IsUnbuilt t a → a ≡ Want
+  pub design : (told told' : Option (List ℤ × List ℤ)) (t : FiveTexts) (one other : Design) → IsDesignOf told t one → IsDesignOf told' t other → AreSameButCertificates one other
+
+-- Answers that are one are alike.
+alike_from : (a b : Answer) → a ≡ b → AreBuiltAlike a b
+alike_from Usage b e = e
+alike_from Want b e = e
+alike_from (ReadFault file) b e = e
+alike_from (WriteFault file) b e = e
+alike_from (TooLong file) b e = e
+alike_from (Refused file place kind) b e = e
+alike_from (NoGrid refusal) b e = e
+alike_from (Range quantity at number) b e = e
+alike_from (PadConflict node first second) b e = e
+alike_from (Unsupplied node) b e = e
+alike_from (Built numbers) b e = (numbers, sym e, record { pieces = refl; stacks = refl; nodes = refl; resistors = refl; pads = refl })
+alike_from Generated b e = e
+alike_from (Solved nodes resistors sweeps) b e = e
+alike_from (Certified nodes) b e = e
+alike_from (NotCertified node side found) b e = e
+
+-- The sizes that a line of `build` tells.
+pub record AreSizesOf (d : Design) (numbers : Numbers) : Type 0 where
+  pub pieces : numbers.pieces ≡ length d.grid.pieces
+  pub stacks : numbers.stacks ≡ length d.grid.stacks
+  pub nodes : numbers.nodes ≡ d.extracted.net.nodes
+  pub resistors : numbers.resistors ≡ length d.extracted.net.resistors
+  pub pads : numbers.pads ≡ length d.extracted.net.pads
+
+one_grid : (d e : Design) (one other : Numbers) → AreSameButCertificates d e → AreSizesOf d one → AreSizesOf e other → TellOneGrid one other
+one_grid d e one other same x y = record {
+  pieces = x.pieces ∙ ap (λ (g : Grid). length g.pieces) same.grid ∙ sym y.pieces;
+  stacks = x.stacks ∙ ap (λ (g : Grid). length g.stacks) same.grid ∙ sym y.stacks;
+  nodes = x.nodes ∙ ap (λ (n : Extracted). n.net.nodes) same.network ∙ sym y.nodes;
+  resistors = x.resistors ∙ ap (λ (n : Extracted). length n.net.resistors) same.network ∙ sym y.resistors;
+  pads = x.pads ∙ ap (λ (n : Extracted). length n.net.pads) same.network ∙ sym y.pads;
+}
+
+module _ (laws : AreDesignLaws) (before after : FilesThen) (held : Holdings) (f : BuildFiles) (known : before.known ≡ Some held) (can : CanRise after.counts) where
+  -- The kinds of answers: a file could not be read, or an output not be written; or no call failed, and a file is too long, or the
+  -- texts are refused, or they are built.
+  pub record IsUnread (a : Answer) : Type 0 where
+    pub file : List ℕ
+    pub told : a ≡ ReadFault file
+    pub fails : FailsToRead before after file
+
+  pub record IsUnwritten (a : Answer) : Type 0 where
+    pub file : List ℕ
+    pub told : a ≡ WriteFault file
+    pub fails : WriteFailed before after file
+
+  pub record IsLong (a : Answer) : Type 0 where
+    pub file : List ℕ
+    pub told : a ≡ TooLong file
+    pub place : ℕ
+    pub first : IsFirstUnread (Some held) f file place
+    pub long : longest_text < length (bytes_in held file)
+
+  pub record IsRefused (a : Answer) : Type 0 where
+    pub some : a ≢ Want
+    pub texts : FiveTexts
+    pub are : AreInputs (Some held) f texts
+    pub why : IsUnbuilt texts a
+
+  pub record IsBuilt (a : Answer) : Type 0 where
+    pub texts : FiveTexts
+    pub are : AreInputs (Some held) f texts
+    pub solver : Option (List ℤ × List ℤ)
+    pub design : Design
+    pub is : IsDesignOf solver texts design
+    pub numbers : Numbers
+    pub told : a ≡ Built numbers
+    pub sizes : AreSizesOf design numbers
+
+  abbrev pub IsShort : Answer → Type 0
+  IsShort a = IsRefused a ⊎ IsBuilt a
+
+  abbrev pub IsQuiet : Answer → Type 0
+  IsQuiet a = NoneFailed before after × (IsLong a ⊎ IsShort a)
+
+  abbrev pub IsStage : Answer → Type 0
+  IsStage a = IsUnread a ⊎ (IsUnwritten a ⊎ IsQuiet a)
+
+  -- ---- each kind has one answer
+  read_rose : (file : List ℕ) → FailsToRead before after file → Rose (before.counts.reads file) (after.counts.reads file)
+  read_rose file fails = of_held (λ _. Rose (before.counts.reads file) (after.counts.reads file)) before.known held known fails.failed.failed_read
+
+  write_rose : (file : List ℕ) → WriteFailed before after file → Rose (before.counts.writes file) (after.counts.writes file)
+  write_rose file fails = of_held (λ _. Rose (before.counts.writes file) (after.counts.writes file)) before.known held known fails.failed_write
+
+  one_read : (g h : List ℕ) (same : Bool) → bytes_eq g h ≡ same → FailsToRead before after g → FailsToRead before after h → g ≡ h
+  one_read g h true is x y = (bytes_eq-Decides g h).0 is
+  one_read g h false is x y = absurd (rose_or_stays _ _ (read_rose g x) (y.only.reads g (λ e. let clash = sym is ∙ (bytes_eq-Decides g h).1 e in cc)) (can.reads g))
+
+  one_written : (g h : List ℕ) (same : Bool) → bytes_eq g h ≡ same → WriteFailed before after g → WriteFailed before after h → g ≡ h
+  one_written g h true is x y = (bytes_eq-Decides g h).0 is
+  one_written g h false is x y = absurd (rose_or_stays _ _ (write_rose g x) (y.only.writes g (λ e. let clash = sym is ∙ (bytes_eq-Decides g h).1 e in cc)) (can.writes g))
+
+  one_unread : (a b : Answer) → IsUnread a → IsUnread b → AreBuiltAlike a b
+  one_unread a b x y = alike_from a b (x.told ∙ ap ReadFault (one_read x.file y.file (bytes_eq x.file y.file) refl x.fails y.fails) ∙ sym y.told)
+
+  one_unwritten : (a b : Answer) → IsUnwritten a → IsUnwritten b → AreBuiltAlike a b
+  one_unwritten a b x y = alike_from a b (x.told ∙ ap WriteFault (one_written x.file y.file (bytes_eq x.file y.file) refl x.fails y.fails) ∙ sym y.told)
+
+  -- A file before the first that was not read is not too long.
+  earlier_fits : (file other : List ℕ) (place later : ℕ) → place < later → IsFirstUnread (Some held) f file place → IsFirstUnread (Some held) f other later → length (bytes_in held file) ≤ longest_text
+  earlier_fits file other place later before_it x y =
+      let inside : place < length (take later (files_read f)) = omega (arith, before_it, y.below, length-take later (files_read f)) in
+      let fits : length (bytes_in held (get_or (take later (files_read f)) place [])) ≤ longest_text = y.earlier place [] inside in
+      let there : get_or (take later (files_read f)) place [] ≡ get_or (files_read f) place [] = get_or-take later (files_read f) place [] before_it in
+      subst (λ (n : List ℕ). length (bytes_in held n) ≤ longest_text) (there ∙ sym x.is) fits
+
+  one_place : (a b : Answer) (x : IsLong a) (y : IsLong b) → (x.place ≡ y.place) ⊎ ((x.place < y.place) ⊎ (y.place < x.place)) → x.file ≡ y.file
+  one_place a b x y (inl same) = x.first.is ∙ ap (name_at (files_read f)) same ∙ sym y.first.is
+  one_place a b x y (inr (inl less)) = let fits = earlier_fits x.file y.file x.place y.place less x.first y.first in absurd (omega (arith, fits, x.long))
+  one_place a b x y (inr (inr more)) = let fits = earlier_fits y.file x.file y.place x.place more y.first x.first in absurd (omega (arith, fits, y.long))
+
+  one_long : (a b : Answer) → IsLong a → IsLong b → AreBuiltAlike a b
+  one_long a b x y = alike_from a b (x.told ∙ ap TooLong (one_place a b x y (cases_order x.place y.place)) ∙ sym y.told)
+
+  texts_here : (t t' : FiveTexts) → AreInputs (Some held) f t → AreInputs (Some held) f t' → t ≡ t'
+  texts_here t t' = same_texts held f t t'
+
+  one_refused : (a b : Answer) → IsRefused a → IsRefused b → AreBuiltAlike a b
+  one_refused a b x y =
+      alike_from a b (laws.refusal x.texts a b x.why (subst (λ t. IsUnbuilt t b) (texts_here y.texts x.texts y.are x.are) y.why) x.some y.some)
+
+  one_built : (a b : Answer) → IsBuilt a → IsBuilt b → AreBuiltAlike a b
+  one_built a b x y =
+      let there : IsDesignOf y.solver x.texts y.design = subst (λ t. IsDesignOf y.solver t y.design) (texts_here y.texts x.texts y.are x.are) y.is in
+      let same = laws.design x.solver y.solver x.texts x.design y.design x.is there in
+      subst (λ z. AreBuiltAlike z b) (sym x.told) (y.numbers, y.told, one_grid x.design y.design x.numbers y.numbers same x.sizes y.sizes)
+
+  refused_or_built : (a b : Answer) → IsRefused a → IsBuilt b → ⊥
+  refused_or_built a b x y = x.some (laws.apart y.solver y.texts y.design a y.is (subst (λ t. IsUnbuilt t a) (texts_here x.texts y.texts x.are y.are) x.why))
+
+  one_short : (a b : Answer) → IsShort a → IsShort b → AreBuiltAlike a b
+  one_short = of_two AreBuiltAlike IsRefused IsBuilt one_refused one_built refused_or_built
+
+  not_long : (t : FiveTexts) → AreInputs (Some held) f t → (a : Answer) → IsLong a → ⊥
+  not_long t are a x =
+      let fits = subst (λ (n : List ℕ). length (bytes_in held n) ≤ longest_text) (sym x.first.is) (each_fits held f t are x.place x.first.below) in
+      omega (arith, fits, x.long)
+
+  long_or_short : (a b : Answer) → IsLong a → IsShort b → ⊥
+  long_or_short a b x (inl y) = not_long y.texts y.are a x
+  long_or_short a b x (inr y) = not_long y.texts y.are a x
+
+  one_quiet : (a b : Answer) → (IsLong a ⊎ IsShort a) → (IsLong b ⊎ IsShort b) → AreBuiltAlike a b
+  one_quiet = of_two AreBuiltAlike IsLong IsShort one_long one_short long_or_short
+
+  one_later : (a b : Answer) → (IsUnwritten a ⊎ IsQuiet a) → (IsUnwritten b ⊎ IsQuiet b) → AreBuiltAlike a b
+  one_later =
+      of_two AreBuiltAlike IsUnwritten IsQuiet one_unwritten (λ a b x y. one_quiet a b x.1 y.1)
+      (λ a b x y. rose_or_stays _ _ x.fails.fault (ap (λ (k : FaultCounts). k.faults) y.0) can.faults)
+
+  not_unread : (a b : Answer) → IsUnread a → (IsUnwritten b ⊎ IsQuiet b) → ⊥
+  not_unread a b x (inl y) = rose_or_stays _ _ (read_rose x.file x.fails) (ap (λ (g : List ℕ → ℕ). g x.file) y.fails.only.reads) (can.reads x.file)
+  not_unread a b x (inr y) = rose_or_stays _ _ x.fails.failed.fault (ap (λ (k : FaultCounts). k.faults) y.0) can.faults
+
+  one_of_all : (a b : Answer) → IsStage a → IsStage b → AreBuiltAlike a b
+  one_of_all = of_two AreBuiltAlike IsUnread (λ a. IsUnwritten a ⊎ IsQuiet a) one_unread one_later not_unread
+
+  -- ---- the kind of an answer
+  refused_stage : (a : Answer) → a ≢ Want → RefusesFiles before after f a → IsStage a
+  refused_stage a some (kept, none, (t, are, why)) =
+      inr (inr (none, inr (inl (record { some = some; texts = t; are = subst (λ k. AreInputs k f t) known are; why = why }))))
+
+  pub stage_of : (solver solver' : SolverThen) (a : Answer) → a ≢ Want → Builds solver solver' before after f a → IsStage a
+  stage_of solver solver' Usage some why = absurd why
+  stage_of solver solver' Want some why = absurd (some refl)
+  stage_of solver solver' (ReadFault file) some (kept, (place, first, fails)) = inl (record { file = file; told = refl; fails = fails })
+  stage_of solver solver' (WriteFault file) some (outputs, builds, stops) =
+      inr (inl (record { file = file; told = refl; fails = failed_write solver solver' before after f outputs file stops }))
+  stage_of solver solver' (TooLong file) some (kept, none, (place, first, long)) =
+      inr (inr (
+        none,
+        inl (record {
+          file = file;
+          told = refl;
+          place = place;
+          first = subst (λ k. IsFirstUnread k f file place) known first;
+          long = subst (λ k. IsTooLong k file) known long;
+        }),
+      ))
+  stage_of solver solver' (Refused file place kind) some why = refused_stage (Refused file place kind) some why
+  stage_of solver solver' (NoGrid words) some why = refused_stage (NoGrid words) some why
+  stage_of solver solver' (Range quantity at number) some why = refused_stage (Range quantity at number) some why
+  stage_of solver solver' (PadConflict node first second) some why = absurd why
+  stage_of solver solver' (Unsupplied node) some why = refused_stage (Unsupplied node) some why
+  stage_of solver solver' (Built numbers) some (outputs, builds, same, none, asked, written) =
+      let numbers_are = same ∙ builds.are_outputs.numbers in
+      inr (inr (
+        none,
+        inr (inr (record {
+          texts = builds.texts;
+          are = subst (λ k. AreInputs k f builds.texts) known builds.are_inputs;
+          solver = solver.told;
+          design = builds.design;
+          is = builds.is_design;
+          numbers = numbers;
+          told = refl;
+          sizes = record {
+            pieces = ap (λ (n : Numbers). n.pieces) numbers_are;
+            stacks = ap (λ (n : Numbers). n.stacks) numbers_are;
+            nodes = ap (λ (n : Numbers). n.nodes) numbers_are ∙ ap (λ (x : Network). x.nodes) builds.is_design.certified.net_is;
+            resistors = ap (λ (n : Numbers). n.resistors) numbers_are ∙ ap (λ (x : Network). length x.resistors) builds.is_design.certified.net_is;
+            pads = ap (λ (n : Numbers). n.pads) numbers_are ∙ ap (λ (x : Network). length x.pads) builds.is_design.certified.net_is;
+          };
+        })),
+      ))
+  stage_of solver solver' Generated some why = absurd why
+  stage_of solver solver' (Solved nodes resistors sweeps) some why = absurd why
+  stage_of solver solver' (Certified nodes) some why = absurd why
+  stage_of solver solver' (NotCertified node side found) some why = absurd why
+
+pub built_once : AreLaws → AreDesignLaws → (words : List (List ℕ)) (solver solver' : SolverThen) (before after : FilesThen) (held : Holdings) (f : BuildFiles) (a b : Answer) → before.known ≡ Some held → CanRise after.counts → IsBuild words f
+    → IsCause words solver solver' before after a → IsCause words solver solver' before after b → a ≢ Want → b ≢ Want → AreBuiltAlike a b
+built_once laws design words solver solver' before after held f a b known can is x y some_a some_b =
+    elim (build_cause laws words solver solver' before after f a is x).why [
+      | inl want ↦ absurd (some_a want.0)
+      | inr x_why ↦ elim (build_cause laws words solver solver' before after f b is y).why [
+        | inl want ↦ absurd (some_b want.0)
+        | inr y_why ↦ one_of_all design before after held f known can a b (stage_of design before after held f known can solver solver' a some_a x_why) (stage_of design before after held f known can solver solver' b some_b y_why)
+      ]
+    ]

@@ -1,19 +1,11 @@
-//! The network as a graph of conductances.
+//! The network as a graph of conductances, or a part of it.
 
+use crate::parts::{Part, Share};
 use grid_net::{Net, Resistor};
 use solve_levels::{Column, Edge, EdgeList, Graph, Left, Level, Pairs, Plan, Scaled, Words};
 
 /// In place of a node's mark: a pad stands there.
 const PAD: u64 = u64::MAX;
-
-/// What the whole solve works on besides the levels.
-#[derive(Clone, Copy)]
-pub struct Lists {
-    /// For each node the number of a pad that is near, plus 1, or 0.
-    pub near: Column,
-    /// For each resistor the inverse of its resistance.
-    pub inverses: Column,
-}
 
 /// The inverse of a resistance of so many bits, in units of `2^-(62 + bits)`: one short division and a step of Newton.
 pub fn inverse_of(ohms: i128) -> u64 {
@@ -33,10 +25,16 @@ pub fn ohms_word(ohms: i128) -> u64 {
     ((ohms.cast_unsigned() & 0xffff_ffff_ffff_ffff) as u64).max(1)
 }
 
-/// The bits of a resistance.
+/// How many bits a resistance has.
+#[inline(always)]
+pub fn ohms_width(ohms: i128) -> u32 {
+    64u32.wrapping_sub(ohms_word(ohms).leading_zeros())
+}
+
+/// The same, as an exponent.
 #[inline(always)]
 pub fn ohms_bits(ohms: i128) -> i64 {
-    64i64.wrapping_sub(ohms_word(ohms).leading_zeros() as i64)
+    ohms_width(ohms) as i64
 }
 
 /// The conductance of a resistance with this inverse.
@@ -53,99 +51,197 @@ fn conductance(ohms: i128, inverse: u64) -> Scaled {
     }
 }
 
-impl Lists {
-    /// Cuts the lists. `None` where there is no room.
-    pub fn cut(words: &mut Words, net: &Net) -> Option<Lists> {
-        let near = Column::cut(words, net.nodes())?;
-        let inverses = Column::cut_long(words, net.resistors().len())?;
-        Some(Lists { near, inverses })
+/// The inverses of all resistances. `None` where there is no room.
+pub fn invert(words: &mut Words, resistors: &[Resistor]) -> Option<Column> {
+    let inverses = Column::cut_long(words, resistors.len())?;
+    let mut k: u32 = 0;
+    for resistor in resistors {
+        inverses.put(words, k, inverse_of(resistor.ohms));
+        k = k.wrapping_add(1);
     }
+    Some(inverses)
+}
 
-    /// Fills the inverses.
-    pub fn invert(&self, words: &mut Words, resistors: &[Resistor]) {
-        let mut k: u32 = 0;
-        for resistor in resistors {
-            self.inverses.put(words, k, inverse_of(resistor.ohms));
-            k = k.wrapping_add(1);
+/// A part whose graph is being made.
+#[derive(Clone, Copy)]
+struct Assembly<'a> {
+    net: &'a Net,
+    inverses: Column,
+    part: Part,
+    graph: Graph,
+    /// For each node the next one of its cluster, plus 1, or 0: between the clusters.
+    followers: Option<Column>,
+}
+
+/// Whether a pad stands at a node.
+#[inline(always)]
+pub fn is_pad(net: &Net, node: u32) -> bool {
+    node < net.nodes() && net.pad(node).is_some()
+}
+
+/// Clears the marks, and marks the pads where the part is the whole.
+fn clear(words: &mut Words, net: &Net, part: &Part, graph: &Graph) {
+    part.near.fill(words, part.nodes, 0);
+    graph.marks.fill(words, part.nodes.wrapping_add(1), 0);
+    if part.share == Share::Whole {
+        for pad in net.pads() {
+            graph.marks.put(words, pad.node, PAD);
         }
     }
 }
 
-/// Marks the pads, and makes each the nearest one of its own node.
-fn mark_pads(words: &mut Words, net: &Net, graph: &Graph, near: Column) {
-    near.fill(words, net.nodes(), 0);
-    graph.marks.fill(words, net.nodes().wrapping_add(1), 0);
-    for pad in net.pads() {
-        graph.marks.put(words, pad.node, PAD);
-        near.put(words, pad.node, (pad.node as u64).wrapping_add(1));
+/// Lists the nodes of each cluster, in their order. `None` where there is no room.
+fn follow(words: &mut Words, net: &Net, part: &Part) -> Option<Column> {
+    let followers = Column::cut(words, net.nodes())?;
+    let firsts = Column::cut(words, part.nodes)?;
+    firsts.fill(words, part.nodes, 0);
+    for node in (0..net.nodes()).rev() {
+        let number = part.number(words, node);
+        if number < part.nodes {
+            let first = firsts.at(words, number);
+            followers.put(words, node, first);
+            firsts.put(words, number, (node as u64).wrapping_add(1));
+        }
     }
+    Some(followers)
 }
 
-/// The resistors of a node, added up, as a list at the low end. All pads are ground. `None` where there is no room.
-fn collect_node(
-    words: &mut Words,
-    net: &Net,
-    graph: &Graph,
-    lists: &Lists,
-    around: &[u32],
-    node: u32,
-) -> Option<()> {
-    let mut list = EdgeList {
-        start: words.low(),
-        room: 0,
-        len: 0,
-    };
-    for place in around {
-        let Some(resistor) = net.resistors().get(*place as usize) else {
-            continue;
+impl Assembly<'_> {
+    // The other end of a resistor at a node with this number of its own, where the resistor is in the part.
+    #[inline(always)]
+    fn end(&self, words: &Words, node: u32, own: u32, other: u32) -> Option<u32> {
+        let end = if self.part.share == Share::Whole {
+            if self.graph.marks.at(words, other) == PAD {
+                self.graph.nodes
+            } else {
+                other
+            }
+        } else if self.part.has(words, node, other) {
+            self.part.number(words, other)
+        } else {
+            own
         };
-        let other = resistor.end_across(node);
-        if other == node {
-            continue;
-        }
-        let mut end = other;
-        if graph.marks.at(words, other) == PAD {
-            lists.near.put(words, node, (other as u64).wrapping_add(1));
-            end = graph.nodes;
-        }
-        let inverse = lists.inverses.at(words, *place);
-        let edge = Edge {
-            node: end,
-            conductance: conductance(resistor.ohms, inverse),
-        };
-        if !graph.collect(words, &mut list, edge) {
-            return None;
-        }
+        if end == own { None } else { Some(end) }
     }
-    list.room = list.len;
-    graph.put_list(words, node, list);
-    Some(())
+
+    // Adds the resistors of a node to a list. All pads are ground. `None` where there is no room.
+    fn collect(
+        &self,
+        words: &mut Words,
+        around: &[u32],
+        node: u32,
+        own: u32,
+        list: &mut EdgeList,
+    ) -> Option<()> {
+        for place in around {
+            let Some(resistor) = self.net.resistors().get(*place as usize) else {
+                continue;
+            };
+            let other = resistor.end_across(node);
+            let Some(end) = self.end(words, node, own, other) else {
+                continue;
+            };
+            if end == self.graph.nodes && is_pad(self.net, other) {
+                self.part
+                    .near
+                    .put(words, own, (other as u64).wrapping_add(1));
+            }
+            let inverse = self.inverses.at(words, *place);
+            let edge = Edge {
+                node: end,
+                conductance: conductance(resistor.ohms, inverse),
+            };
+            if !self.graph.collect(words, list, edge) {
+                return None;
+            }
+        }
+        Some(())
+    }
+
+    // Adds the resistors of the nodes that follow one in its cluster.
+    fn collect_followers(
+        &self,
+        words: &mut Words,
+        followers: Column,
+        node: u32,
+        own: u32,
+        list: &mut EdgeList,
+    ) -> Option<()> {
+        let mut next = followers.number_at(words, node);
+        for _ in 0..self.net.nodes() {
+            if next == 0 || next > self.net.nodes() {
+                return Some(());
+            }
+            let node = next - 1;
+            self.collect(words, self.net.around(node), node, own, list)?;
+            next = followers.number_at(words, node);
+        }
+        Some(())
+    }
+
+    // The resistors of a node, or of its cluster, added up, as a list at the low end. `None` where there is no room.
+    fn list(&mut self, words: &mut Words, around: &[u32], node: u32, own: u32) -> Option<()> {
+        self.graph.stamp = own as u64 + 1;
+        let mut list = EdgeList {
+            start: words.low(),
+            room: 0,
+            len: 0,
+        };
+        self.collect(words, around, node, own, &mut list)?;
+        if let Some(followers) = self.followers {
+            self.collect_followers(words, followers, node, own, &mut list)?;
+        }
+        list.room = list.len;
+        self.graph.put_list(words, own, list);
+        Some(())
+    }
+
+    // Whether the next list is that of this node: in the whole where it is no pad, and in the other parts where it is
+    // the first one with its number.
+    fn is_next(&self, node: u32, own: u32, len: u32) -> bool {
+        if self.part.share == Share::Whole {
+            return !is_pad(self.net, node);
+        }
+        own == len && own < self.part.nodes
+    }
 }
 
-/// Makes the graph of a network, whose nodes are those that are no pads. `None` where there is no room.
-pub fn assemble(words: &mut Words, net: &Net, lists: &Lists) -> Option<Plan> {
-    let nodes = net.nodes();
+/// Makes the graph of a part, of whose nodes those are taken that are no pads. `None` where there is no room.
+pub fn assemble(words: &mut Words, net: &Net, inverses: Column, part: Part) -> Option<Plan> {
+    let nodes = part.nodes;
     let level = Level::cut(words, nodes)?;
     let list = Column::cut(words, nodes)?;
-    let mut graph = Graph {
+    let graph = Graph {
         nodes,
         lists: Pairs::cut(words, nodes as usize)?,
         marks: Column::cut(words, nodes.wrapping_add(1))?,
         stamp: 0,
     };
-    mark_pads(words, net, &graph, lists.near);
+    clear(words, net, &part, &graph);
+    let followers = if part.share == Share::Between {
+        Some(follow(words, net, &part)?)
+    } else {
+        None
+    };
+    let mut assembly = Assembly {
+        net,
+        inverses,
+        part,
+        graph,
+        followers,
+    };
     let mut len: u32 = 0;
-    for node in 0..nodes {
-        if net.pad(node).is_none() {
-            graph.stamp = node as u64 + 1;
-            collect_node(words, net, &graph, lists, net.around(node), node)?;
-            list.put(words, len, node as u64);
+    for node in 0..net.nodes() {
+        let own = part.number(words, node);
+        if assembly.is_next(node, own, len) {
+            assembly.list(words, net.around(node), node, own)?;
+            list.put(words, len, own as u64);
             len = len.wrapping_add(1);
         }
     }
-    graph.stamp = nodes as u64 + 1;
+    assembly.graph.stamp = nodes as u64 + 1;
     Some(Plan {
-        graph,
+        graph: assembly.graph,
         all: Left { list, len },
         level,
     })

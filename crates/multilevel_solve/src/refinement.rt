@@ -1,11 +1,13 @@
 //! Refinement: what each sum of the certificate lacks of the middle of its window, by the certificate's own floors and
-//! ceilings, is solved for and added, until each sum lies in its window.
+//! ceilings, is solved for and added, until each sum lies in its window. Where the network has clusters, a round solves
+//! first between them and then, for what is lacking by then, inside them.
 
 ghost use Rattle.std.specs.Prelude.{◌<◌};
 
-use crate::assembly::{Lists, ohms_bits};
+use crate::assembly::{assemble, is_pad, ohms_bits};
+use crate::parts::{Part, Share};
 use grid_net::Net;
-use solve_levels::{Effort, Stack, Wides, Words, shifted, wide_bits_of};
+use solve_levels::{Column, Effort, Stack, Wides, Words, shifted, spread_pads, wide_bits_of};
 
 /// Which of the two lists is made.
 #[derive(Clone, Copy, PartialEq, Eq)]
@@ -36,6 +38,13 @@ struct Lack {
     is_none: bool,
 }
 
+/// What a round starts from.
+#[derive(Clone, Copy)]
+struct Round {
+    source: Source,
+    lack: Lack,
+}
+
 /// What one round leaves at most of the currents before it: a part as a fraction.
 #[derive(Clone, Copy)]
 pub struct Gain {
@@ -43,15 +52,53 @@ pub struct Gain {
     before: u128,
 }
 
+/// A part of a network, and the levels that solve it.
+#[derive(Drop)]
+pub struct Solving {
+    pub part: Part,
+    stack: Stack,
+    /// The currents and the voltages of the first level.
+    pub currents: Wides,
+    volts: Wides,
+}
+
+impl Solving {
+    /// Makes the levels of a part, and finds the pad that is near each of its nodes. `None` where there is no room.
+    pub fn build(words: &mut Words, net: &Net, inverses: Column, part: Part) -> Option<Solving> {
+        let plan = assemble(words, net, inverses, part)?;
+        let stack = Stack::build(words, plan, part.near);
+        let level = *stack.first()?;
+        spread_pads(words, &level, part.near);
+        Some(Solving {
+            part,
+            stack,
+            currents: level.currents,
+            volts: level.volts,
+        })
+    }
+
+    /// The pad that is near a node, plus 1, or 0.
+    pub fn near(&self, words: &Words, node: u32) -> u32 {
+        let number = self.part.number(words, node);
+        if number < self.part.nodes {
+            self.part.near.number_at(words, number)
+        } else {
+            0
+        }
+    }
+}
+
 /// What is refined, and with what.
 #[derive(Drop)]
 pub struct Refining<'a> {
     pub net: &'a Net,
-    pub stack: &'a Stack,
-    pub lists: Lists,
-    /// The currents and the voltages of the first level.
-    pub currents: Wides,
-    pub volts: Wides,
+    pub inverses: Column,
+    /// The whole, or what is between the clusters.
+    pub first: Solving,
+    /// What is inside the clusters.
+    pub inside: Option<Solving>,
+    /// What each sum lacks; of a whole these are the currents of its first level.
+    pub lacks: Wides,
     pub half: Half,
 }
 
@@ -110,7 +157,7 @@ impl Refining<'_> {
     fn put_targets(&self, words: &mut Words, source: Source) {
         for node in 0..self.net.nodes() {
             let current = target(self.net, self.half, source, node);
-            self.currents.put(words, node, current);
+            self.lacks.put(words, node, current);
         }
     }
 
@@ -122,14 +169,14 @@ impl Refining<'_> {
             let at_a = x.get(a as usize).copied().unwrap_or(0);
             let at_b = x.get(b as usize).copied().unwrap_or(0);
             if at_a != at_b {
-                let inverse = self.lists.inverses.at(words, k);
+                let inverse = self.inverses.at(words, k);
                 let flow = flow(at_a.wrapping_sub(at_b), resistor.ohms, inverse);
                 let (from_a, from_b) = match self.half {
                     Half::High => (flow, (-1i128).wrapping_sub(flow)),
                     Half::Low => (flow.wrapping_add(1), flow.wrapping_neg()),
                 };
-                self.currents.add(words, a, from_a.wrapping_neg());
-                self.currents.add(words, b, from_b.wrapping_neg());
+                self.lacks.add(words, a, from_a.wrapping_neg());
+                self.lacks.add(words, b, from_b.wrapping_neg());
             }
             k = k.wrapping_add(1);
         }
@@ -152,7 +199,7 @@ impl Refining<'_> {
         };
         for node in 0..self.net.nodes() {
             if self.net.pad(node).is_none() {
-                let size = self.currents.at(words, node).unsigned_abs();
+                let size = self.lacks.at(words, node).unsigned_abs();
                 let window = degree(self.net, node).unsigned_abs().saturating_mul(31);
                 lack.is_none = lack.is_none && size <= window;
                 lack.total = lack.total.saturating_add(size);
@@ -168,23 +215,40 @@ impl Refining<'_> {
             let current = if self.net.pad(node).is_some() {
                 0
             } else {
-                shifted(self.currents.at(words, node), scale.wrapping_neg())
+                shifted(self.lacks.at(words, node), scale.wrapping_neg())
             };
-            self.currents.put(words, node, current);
+            self.lacks.put(words, node, current);
         }
     }
 
-    // Solves for the currents, in units in which no voltage passes 122 bits. Answers the scale of the voltages.
-    fn solve(&self, words: &mut Words, x: &[i128], source: Source, lack: Lack) -> i64 {
-        let mut scale = scale_for(lack);
+    // Adds up the currents by the nodes of a part, in units of 2^-scale.
+    fn hand_over(&self, words: &mut Words, solving: &Solving, scale: i64) {
+        let part = &solving.part;
+        solving.currents.fill(words, part.nodes, 0);
+        for node in 0..self.net.nodes() {
+            let number = part.number(words, node);
+            if number < part.nodes {
+                let current = shifted(self.lacks.at(words, node), scale.wrapping_neg());
+                solving.currents.add(words, number, current);
+            }
+        }
+    }
+
+    // Solves a part for the currents, in units in which no voltage passes 122 bits. Answers the scale of the voltages.
+    fn solve(&self, words: &mut Words, x: &[i128], round: Round, solving: &Solving) -> i64 {
+        let mut scale = scale_for(round.lack);
         for attempt in 0..5 {
             if attempt > 0 {
-                // The solve before has used up the currents.
+                // The solve before may have used up the currents.
                 scale = scale.wrapping_sub(24);
-                self.find_lack(words, x, source);
+                self.find_lack(words, x, round.source);
             }
-            self.scale(words, scale);
-            let solved = self.stack.solve(words, effort_for(lack, scale));
+            if solving.part.share == Share::Whole {
+                self.scale(words, scale);
+            } else {
+                self.hand_over(words, solving, scale);
+            }
+            let solved = solving.stack.solve(words, effort_for(round.lack, scale));
             if solved.used >> 122 == 0 {
                 break;
             }
@@ -192,26 +256,47 @@ impl Refining<'_> {
         scale
     }
 
-    // Adds the voltages to a list.
-    fn add(&self, words: &Words, x: &mut [i128], scale: i64) {
+    // Adds the voltages of a part to a list.
+    fn add(&self, words: &Words, x: &mut [i128], solving: &Solving, scale: i64) {
         let mut node: u32 = 0;
         for entry in x.iter_mut() {
-            if node < self.net.nodes() && self.net.pad(node).is_none() {
-                let volts = shifted(self.volts.at(words, node), scale);
+            let number = solving.part.number(words, node);
+            if number < solving.part.nodes && !is_pad(self.net, node) {
+                let volts = shifted(solving.volts.at(words, number), scale);
                 *entry = entry.wrapping_add(volts);
             }
             node = node.wrapping_add(1);
         }
     }
 
+    // Solves a part, and adds its voltages to a list.
+    fn correct(&self, words: &mut Words, x: &mut [i128], round: Round, solving: &Solving) {
+        let scale = self.solve(words, x, round, solving);
+        self.add(words, x, solving, scale);
+    }
+
+    // One round: the whole, or first between the clusters and then inside them.
+    fn correct_all(&self, words: &mut Words, x: &mut [i128], round: Round) {
+        self.correct(words, x, round, &self.first);
+        if let Some(inside) = &self.inside {
+            self.find_lack(words, x, Source::Flows);
+            let next = Round {
+                source: Source::Flows,
+                lack: self.measure(words),
+            };
+            self.correct(words, x, next, inside);
+        }
+    }
+
     /// Corrects a list round by round, until each sum lies in its window, a round gains little, or what a round leaves is
     /// known to be nothing. Answers that, if the list is good; `near` is that of the other list, from which this one
-    /// starts with known residuals.
+    /// starts with known residuals. With clusters nothing is known: what is left over in one is found at one of its nodes.
     pub fn refine(&self, words: &mut Words, x: &mut [i128], near: Option<Gain>) -> Option<Gain> {
+        let is_whole = self.inside.is_none();
         let mut gain = near;
         let mut before: u128 = 0;
-        for round in 0..ROUNDS {
-            let source = if near.is_some() && round == 0 {
+        for number in 0..ROUNDS {
+            let source = if is_whole && near.is_some() && number == 0 {
                 Source::Known
             } else {
                 Source::Flows
@@ -222,15 +307,14 @@ impl Refining<'_> {
                 return gain;
             }
             if before > 0 {
-                if round > 2 && lack.total > before / 2 {
+                if number > 2 && lack.total > before / 2 {
                     return None;
                 }
                 gain = Some(worse(gain, lack.most, before));
             }
             before = lack.total;
-            let scale = self.solve(words, x, source, lack);
-            self.add(words, x, scale);
-            if leaves_nothing(gain, lack.total) {
+            self.correct_all(words, x, Round { source, lack });
+            if is_whole && leaves_nothing(gain, lack.total) {
                 return gain;
             }
         }

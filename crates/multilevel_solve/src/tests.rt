@@ -1,6 +1,8 @@
 use super::*;
+use crate::parts::split;
 use grid_net::{Load, Net, Pad, Resistor, Solver};
 use level_region::Region;
+use solve_levels::Words;
 use std::alloc::Global;
 use std::test::Fail;
 
@@ -118,5 +120,114 @@ fn region_of_no_cell(rt: HostRuntime) -> Result<(), Fail> {
         Multilevel::new().propose(&net, &mut work, &mut x, &mut w);
     }
     assert!(rt; x == [VOLT, VOLT] && w == [VOLT, VOLT], "{} {}", x[1], w[1]);
+    Ok(())
+}
+
+// Two clusters of 1 nano-ohm, of two and of three nodes, between resistors of 1000 ohms: nodes 0 and 1, nodes 2 to 4, and
+// a pad at node 5. Each node but that draws 1 mA.
+fn two_clusters(alloc: Global) -> Result<Net, Fail> {
+    let kilo: i128 = 1_000_000_000_000;
+    let mut resistors = Vec::new(alloc);
+    for (a, b, ohms) in [
+        (0, 1, 1),
+        (1, 2, kilo),
+        (2, 3, 1),
+        (3, 4, 1),
+        (4, 5, kilo),
+        (0, 4, kilo),
+    ] {
+        resistors.push(Resistor { a, b, ohms })?;
+    }
+    let pads = vec![in alloc;
+        Pad {
+            node: 5,
+            volts: VOLT
+        },
+    ]?;
+    let mut loads = Vec::new(alloc);
+    for node in 0..5 {
+        loads.push(Load {
+            node,
+            low: 1_000_000_000_000,
+            high: 1_000_000_000_000,
+        })?;
+    }
+    Ok(Net::build(alloc, 6, resistors, pads, loads)?)
+}
+
+// What leaves a node and what is drawn there, of the high list whose flows are rounded down; with the sign -1 what comes
+// and is fed there, of the low list.
+fn sum_at(net: &Net, x: &[i128], node: u32, sign: i128) -> i128 {
+    let mut sum = sign.saturating_mul(1_000_000_000_000);
+    for resistor in net.resistors() {
+        if resistor.a == node || resistor.b == node {
+            let other = resistor.end_across(node);
+            let here = x.get(node as usize).copied().unwrap_or(0);
+            let there = x.get(other as usize).copied().unwrap_or(0);
+            let flow = here
+                .saturating_sub(there)
+                .saturating_mul(sign)
+                .checked_div_euclid(resistor.ohms)
+                .unwrap_or(0);
+            sum = flow.saturating_add(sum);
+        }
+    }
+    sum
+}
+
+#[test]
+fn parts_of_two_clusters(rt: HostRuntime) -> Result<(), Fail> {
+    let net = two_clusters(rt.alloc())?;
+    let mut cells: [i128; 100] = [7; 100];
+    let mut words = Words::new(&mut cells);
+    let parts = split(&mut words, &net);
+    assert!(rt; parts.is_some());
+    if let Some((between, inside)) = parts {
+        assert_eq!(rt; between.nodes, 2);
+        assert_eq!(rt; inside.nodes, 3);
+        let wanted: [(u32, u32, u32); 6] = [
+            (0, 0, 3),
+            (1, 0, 0),
+            (2, 1, 3),
+            (3, 1, 1),
+            (4, 1, 2),
+            (5, 2, 3),
+        ];
+        for (node, of_between, of_inside) in wanted {
+            assert_eq!(rt; between.number(&words, node), of_between);
+            assert_eq!(rt; inside.number(&words, node), of_inside);
+        }
+        assert!(rt; inside.has(&words, 3, 4) && !inside.has(&words, 1, 2));
+    }
+    Ok(())
+}
+
+#[test]
+fn two_pads_are_no_clusters(rt: HostRuntime) -> Result<(), Fail> {
+    let net = two_pads(rt.alloc())?;
+    let mut cells: [i128; 100] = [7; 100];
+    let mut words = Words::new(&mut cells);
+    assert!(rt; split(&mut words, &net).is_none());
+    assert_eq!(rt; words.low(), 0);
+    Ok(())
+}
+
+#[test]
+fn clusters_are_solved(rt: HostRuntime) -> Result<(), Fail> {
+    let net = two_clusters(rt.alloc())?;
+    let mut work = Region::new(rt.alloc(), 300)?;
+    let mut x: [i128; 6] = [0; 6];
+    let mut w: [i128; 6] = [0; 6];
+    if net.nodes() == 6 {
+        Multilevel::new().propose(&net, &mut work, &mut x, &mut w);
+    }
+    for node in 0..5_u32 {
+        let high = sum_at(&net, &x, node, 1);
+        let low = sum_at(&net, &w, node, -1);
+        let most = 64 * (net.around(node).len() as i128 + 1) + 1;
+        assert!(rt; 1 <= high && high <= most, "node {node}: {high}");
+        assert!(rt; 1 <= low && low <= most, "node {node}: {low}");
+    }
+    assert!(rt; x[5] == VOLT && w[5] == VOLT);
     Ok(())
 }

@@ -4,7 +4,7 @@
 
 equal: SIDE resistors of 1 mohm in a line, a load of 1 mA at each node.
 chain6: SIDE·SIDE nodes in a line, resistors over 12 orders, a load of 1 uA at each.
-grid6, grid9, grid12: SIDE by SIDE nodes, resistors over so many orders, even in the logarithm.
+grid6, grid9, grid12: SIDE by SIDE nodes, resistors over so many orders from 1 nohm on, even in the logarithm.
 clusters9: SIDE by SIDE nodes in clusters of 10 by 10; 1 mohm inside, 9 orders more between.
 patches: the same with 1 nohm inside and 1000 ohm between: shorted patches of metal.
 patch: a grid of 1 ohm in whose middle third, in both directions, all resistors have 1 nohm: one shorted patch.
@@ -97,7 +97,7 @@ def patch(side):
 
 
 def over(orders, rnd):
-    return lambda *_: 10 ** rnd.uniform(-orders / 2, orders / 2)
+    return lambda *_: 10 ** rnd.uniform(-9, orders - 9)
 
 
 def clusters(inside, between):

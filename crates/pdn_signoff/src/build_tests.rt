@@ -313,22 +313,26 @@ fn a_fault_of_each_input(rt: HostRuntime) -> Result<(), Fail> {
 fn stops_at(
     rt: &(impl Abort + AllocGlobal),
     whole: &MemFiles,
-    stopped: usize,
+    stopped: &str,
     call: u64,
     line: &[u8],
 ) -> Result<(), AllocError> {
-    let failing = (OUTPUTS[stopped], call);
+    let failing = (stopped, call);
     let files = ends(rt, &Run { failing, ..small() }, 3, line)?;
-    for (place, file) in OUTPUTS.into_iter().enumerate() {
+    let mut is_before = true;
+    for file in OUTPUTS {
         let found = files.bytes(file);
-        if place < stopped {
+        if file == stopped {
+            is_before = false;
+            let made = (call == 2).then_some(b"".as_slice());
+            assert!(rt; found == made, "it is made and empty, or not made");
+        } else if is_before {
             assert!(rt; found == whole.bytes(file), "it is whole");
-        } else if place == stopped && call == 2 {
-            assert!(rt; found == Some(b"".as_slice()), "it is made");
         } else {
             assert!(rt; found.is_none(), "it is not made");
         }
     }
+    assert!(rt; !is_before, "the output is one of the four");
     Ok(())
 }
 
@@ -337,10 +341,10 @@ fn stops_at(
 fn a_fault_of_each_output(rt: HostRuntime) -> Result<(), Fail> {
     let whole = ends(&rt, &small(), 0, BUILT)?;
     for call in [1, 2] {
-        stops_at(&rt, &whole, 0, call, b"pdn: WriteFault out\n")?;
-        stops_at(&rt, &whole, 1, call, b"pdn: WriteFault net\n")?;
-        stops_at(&rt, &whole, 2, call, b"pdn: WriteFault cert\n")?;
-        stops_at(&rt, &whole, 3, call, b"pdn: WriteFault rep\n")?;
+        stops_at(&rt, &whole, "out", call, b"pdn: WriteFault out\n")?;
+        stops_at(&rt, &whole, "net", call, b"pdn: WriteFault net\n")?;
+        stops_at(&rt, &whole, "cert", call, b"pdn: WriteFault cert\n")?;
+        stops_at(&rt, &whole, "rep", call, b"pdn: WriteFault rep\n")?;
     }
     Ok(())
 }

@@ -1,5 +1,7 @@
 //! Runs of `build` on the small design, over files and a sink in memory.
-use crate::build_texts::{BIAS, DEF, NETLIST, REPORT, SCRIPT, WRITTEN_DEF};
+use crate::build_texts::{
+    BIAS, CROSSING_CUT, DEF, NETLIST, REPORT, SCRIPT, STACK_BLOCKED, STRAP_CUT, WRITTEN_DEF,
+};
 use crate::run;
 use grid_gen::{CELLS, TECHNOLOGY};
 use grid_net::hostile::{Alternating, Everywhere, Filling};
@@ -236,56 +238,37 @@ pdngen
     Ok(())
 }
 
-/// The small design with a blockage.
-fn blocked(
-    rt: &(impl Abort + AllocGlobal),
-    blockage: &[u8],
-    line: &[u8],
-) -> Result<(), AllocError> {
-    let alloc = rt.alloc();
-    let mut def = Vec::from_slice(
-        alloc,
-        b"VERSION 5.8 ;
-DESIGN small ;
-UNITS DISTANCE MICRONS 2000 ;
-DIEAREA ( 0 0 ) ( 8000 2800 ) ;
-ROW r0 unit 0 0 N DO 20 BY 1 STEP 400 0 ;
-COMPONENTS 1 ;
-- u1 C0 + PLACED ( 2400 0 ) N ;
-END COMPONENTS
-BLOCKAGES 1 ;
-",
-    )?;
-    def.extend_from_slice(blockage)?;
-    def.extend_from_slice(b"END BLOCKAGES\nEND DESIGN\n")?;
+/// A strap that a blockage cuts, or whose stack one takes away, leaves a node without supply.
+#[test]
+fn straps_cut_by_blockages(rt: HostRuntime) -> Result<(), Fail> {
+    let line = b"pdn: Unsupplied n1_3800_2800\n";
     refused(
-        rt,
+        &rt,
         &Run {
-            def: &def,
+            def: STRAP_CUT,
             ..small()
         },
         7,
         line,
-    )
-}
-
-/// A strap that a blockage cuts, or whose stack one takes away, leaves a node without supply.
-#[test]
-fn straps_cut_by_blockages(rt: HostRuntime) -> Result<(), Fail> {
-    blocked(
-        &rt,
-        b"- LAYER metal4 RECT ( 5900 1300 ) ( 6100 1500 ) ;\n",
-        b"pdn: Unsupplied n1_3800_2800\n",
     )?;
-    blocked(
+    let line = b"pdn: Unsupplied n8_3800_0\n";
+    refused(
         &rt,
-        b"- LAYER metal4 RECT ( 1600 -50 ) ( 1700 50 ) ;\n",
-        b"pdn: Unsupplied n8_3800_0\n",
+        &Run {
+            def: CROSSING_CUT,
+            ..small()
+        },
+        7,
+        line,
     )?;
-    blocked(
+    refused(
         &rt,
-        b"- LAYER metal2 RECT ( 1900 -10 ) ( 2100 10 ) ;\n",
-        b"pdn: Unsupplied n8_3800_0\n",
+        &Run {
+            def: STACK_BLOCKED,
+            ..small()
+        },
+        7,
+        line,
     )?;
     Ok(())
 }

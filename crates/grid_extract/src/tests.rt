@@ -222,6 +222,36 @@ fn small_design(rt: HostRuntime) -> Result<(), Fail> {
     Ok(())
 }
 
+// The edge of the power strap is a place on it; one unit beyond it, at 6481, there is no metal.
+#[test]
+fn pad_on_the_strap_edge(rt: HostRuntime) -> Result<(), Fail> {
+    let beyond = small(
+        &rt,
+        rt.alloc(),
+        b"supply VDD 1.1\nsupply VSS 0\npad VDD metal4 3.2405 0",
+    )?;
+    assert!(rt; is_refused(beyond, ExtractError::PadOff(3)));
+    let edge = small(
+        &rt,
+        rt.alloc(),
+        b"supply VDD 1.1\nsupply VSS 0\npad VDD metal4 3.24 0",
+    )?;
+    let Ok(extracted) = edge else {
+        assert!(rt; false, "refused");
+        return Ok(());
+    };
+    let names = names_of(rt.alloc(), &extracted)?;
+    assert_eq!(rt;
+        names.as_slice(),
+        b"n10_2000_0 n11_2000_0 n1_6000_2800 n2_6000_2800 n3_6000_2800 n4_6000_0 n4_6000_2800 n8_2000_0 n9_2000_0 ".as_slice()
+    );
+    let net = &extracted.net;
+    assert_eq!(rt; net.nodes(), 9);
+    assert_eq!(rt; net.pads().len(), 1);
+    assert_eq!(rt; net.pad(5), Some(1_100_000_000_000_000_000_000_000));
+    Ok(())
+}
+
 // Two causes at once for each two kinds that follow on each other: a name that is not known, a supply that lacks, a pad
 // that is off, a load that is off, and loads beyond their limit. Of names the earliest line goes first.
 const REFUSALS: [(&[u8], ExtractError); 8] = [

@@ -5,6 +5,7 @@
 #![tactic(auto)]
 
 mod bias;
+mod blocks;
 mod cells;
 mod design;
 mod line;
@@ -49,6 +50,9 @@ fn word_at(alloc: Global, rt: &(impl Env + AllocGlobal), number: usize) -> io::R
 fn told(alloc: Global, format: &str, text: &[u8]) -> Result<Option<Printed>, AllocError> {
     if format == "bias" {
         return Ok(Some(bias::told(alloc, text)?));
+    }
+    if format == "blocks" {
+        return Ok(Some(blocks::told(alloc, text)?));
     }
     if format == "cells" {
         return Ok(Some(cells::told(alloc, text)?));

@@ -1,0 +1,80 @@
+-- Units by the number of their words.
+use Rattle.std.proofs.Common.{◌≡◌, false, ◌<◌, ◌≤◌, List, [], ◌∷◌, Option, length, get_or, refl, ap, arith}
+use Rattle.macro_blocks.specs.declared.section.Section.{Section}
+use Rattle.macro_blocks.specs.declared.standing.OpenPin.{OpenPin}
+use Rattle.macro_blocks.specs.declared.standing.Standing.{Standing}
+use Rattle.macro_blocks.specs.Record.{act_of, act_of_more}
+use Rattle.macro_blocks.specs.Standing.{after_more, after_words, is_rect}
+use Rattle.reading.specs.declared.word.Word.{Word}
+use Rattle.reading.specs.Word.{Token}
+use Rattle.reading.specs.declared.word.Form.TheVariants.{Bare}
+
+abbrev pub no_word : Word
+no_word = record { text = record { ref_ptr = (0, 0); now = [] }; place = record { line = 0; word = 0 }; form = Bare }
+
+pub no_words : (xs : List Word) → length xs < 1 → xs ≡ []
+no_words [] h = refl
+no_words (x ∷ xs) h = absurd (omega arith)
+
+pub one_word : (xs : List Word) → 1 ≤ length xs → length xs < 2 → xs ≡ get_or xs 0 no_word ∷ []
+one_word [] h k = absurd (omega arith)
+one_word (x ∷ xs) h k = ap (λ z. x ∷ z) (no_words xs (omega arith))
+
+pub two_words : (xs : List Word) → 2 ≤ length xs → length xs < 3 → xs ≡ get_or xs 0 no_word ∷ get_or xs 1 no_word ∷ []
+two_words [] h k = absurd (omega arith)
+two_words (x ∷ xs) h k = ap (λ z. x ∷ z) (one_word xs (omega arith) (omega arith))
+
+pub three_words : (xs : List Word) → 3 ≤ length xs → length xs < 4 →
+    xs ≡ get_or xs 0 no_word ∷ get_or xs 1 no_word ∷ get_or xs 2 no_word ∷ []
+three_words [] h k = absurd (omega arith)
+three_words (x ∷ xs) h k = ap (λ z. x ∷ z) (two_words xs (omega arith) (omega arith))
+
+pub four_words : (xs : List Word) → 4 ≤ length xs → length xs < 5 →
+    xs ≡ get_or xs 0 no_word ∷ get_or xs 1 no_word ∷ get_or xs 2 no_word ∷ get_or xs 3 no_word ∷ []
+four_words [] h k = absurd (omega arith)
+four_words (x ∷ xs) h k = ap (λ z. x ∷ z) (three_words xs (omega arith) (omega arith))
+
+pub five_words : (xs : List Word) → 5 ≤ length xs → length xs < 6 →
+    xs ≡ get_or xs 0 no_word ∷ get_or xs 1 no_word ∷ get_or xs 2 no_word ∷ get_or xs 3 no_word ∷ get_or xs 4 no_word ∷ []
+five_words [] h k = absurd (omega arith)
+five_words (x ∷ xs) h k = ap (λ z. x ∷ z) (four_words xs (omega arith) (omega arith))
+
+pub six_words : (xs : List Word) → 6 ≤ length xs → length xs < 7 →
+    xs ≡ get_or xs 0 no_word ∷ get_or xs 1 no_word ∷ get_or xs 2 no_word ∷ get_or xs 3 no_word ∷ get_or xs 4 no_word ∷ get_or xs 5 no_word ∷ []
+six_words [] h k = absurd (omega arith)
+six_words (x ∷ xs) h k = ap (λ z. x ∷ z) (five_words xs (omega arith) (omega arith))
+
+-- Fewer words than six are no RECT, and neither are more.
+pub few_words : (unit : List Token) → length unit < 6 → false ≡ is_rect unit
+few_words [] h = refl
+few_words (a ∷ []) h = refl
+few_words (a ∷ b ∷ []) h = refl
+few_words (a ∷ b ∷ c ∷ []) h = refl
+few_words (a ∷ b ∷ c ∷ d ∷ []) h = refl
+few_words (a ∷ b ∷ c ∷ d ∷ e ∷ []) h = refl
+few_words (a ∷ b ∷ c ∷ d ∷ e ∷ f ∷ unit) h = absurd (omega arith)
+
+pub many_words : (unit : List Token) → 7 ≤ length unit → false ≡ is_rect unit
+many_words [] h = refl
+many_words (a ∷ []) h = refl
+many_words (a ∷ b ∷ []) h = refl
+many_words (a ∷ b ∷ c ∷ []) h = refl
+many_words (a ∷ b ∷ c ∷ d ∷ []) h = refl
+many_words (a ∷ b ∷ c ∷ d ∷ e ∷ []) h = refl
+many_words (a ∷ b ∷ c ∷ d ∷ e ∷ f ∷ []) h = absurd (omega arith)
+many_words (a ∷ b ∷ c ∷ d ∷ e ∷ f ∷ g ∷ unit) h = refl
+
+-- A unit of three words and more does what those do.
+pub long_act : (section : Section) (pin : Option OpenPin) (unit : List Token) → 3 ≤ length unit → act_of section pin unit ≡ act_of_more section
+long_act section pin [] h = absurd (omega arith)
+long_act section pin (a ∷ []) h = absurd (omega arith)
+long_act section pin (a ∷ b ∷ []) h = absurd (omega arith)
+long_act section pin (a ∷ b ∷ c ∷ unit) h = refl
+
+-- It leads where those lead.
+pub long_leads : (section : Section) (unit : List Token) (standing : Standing) → 3 ≤ length unit →
+    after_words section unit standing ≡ after_more section (is_rect unit) standing
+long_leads section [] standing h = absurd (omega arith)
+long_leads section (a ∷ []) standing h = absurd (omega arith)
+long_leads section (a ∷ b ∷ []) standing h = absurd (omega arith)
+long_leads section (a ∷ b ∷ c ∷ unit) standing h = refl

@@ -1,0 +1,10 @@
+pub mod Sort
+pub mod Section
+pub mod Standing
+pub mod Rule
+pub mod Number
+pub mod Record
+pub mod Fault
+pub mod Format
+pub mod Limits
+pub mod inside

@@ -1,0 +1,111 @@
+-- The sorts of the words of a LEF library, as the reader of its blocks tells them apart: the keywords, the marks, other
+-- words, and the end of the text.
+use Rattle.std.specs.Prelude.{◌≡◌, ℕ, ◌≤◌, ◌==◌, Bool, List, [], ◌∷◌, length, slice_get, Some, codes}
+use Rattle.std.proofs.Common.{refl, arith}
+use Rattle.macro_blocks.specs.declared.sort.Sort.{Sort}
+use Rattle.macro_blocks.specs.declared.sort.Sort.TheVariants.{Macro, NamedSection, Layer, WordSection, BeginExt, End, Library, Origin, Pin, Port, Use, Power, Ground, Rect, Obs, Density, Semicolon, Bracket, Quoted, Other, TextEnd}
+use Rattle.reading.specs.declared.word.Form.{Form}
+use Rattle.reading.specs.declared.word.Form.TheVariants.{Bare, End as EndForm}
+use Rattle.reading.specs.Keyword.{keyword_or}
+use Rattle.reading.specs.Word.{Token}
+
+abbrev pub number_of : Sort → ℕ
+number_of Macro = 0
+number_of NamedSection = 1
+number_of Layer = 2
+number_of WordSection = 3
+number_of BeginExt = 4
+number_of End = 5
+number_of Library = 6
+number_of Origin = 7
+number_of Pin = 8
+number_of Port = 9
+number_of Use = 10
+number_of Power = 11
+number_of Ground = 12
+number_of Rect = 13
+number_of Obs = 14
+number_of Density = 15
+number_of Semicolon = 16
+number_of Bracket = 17
+number_of Quoted = 18
+number_of Other = 19
+number_of TextEnd = 20
+
+abbrev pub all_sorts : List Sort
+all_sorts =
+    Macro ∷ NamedSection ∷ Layer ∷ WordSection ∷ BeginExt ∷ End ∷ Library ∷ Origin ∷ Pin ∷ Port ∷ Use
+    ∷ Power ∷ Ground ∷ Rect ∷ Obs ∷ Density ∷ Semicolon ∷ Bracket ∷ Quoted ∷ Other ∷ TextEnd ∷ []
+
+-- The sort is this one.
+abbrev pub the : Sort → Sort → Bool
+the this sort = number_of sort == number_of this
+
+-- The keywords and the marks. `SITE` and its like begin a section that ends with `END` and its name, and so does `LAYER`
+-- in the library; `UNITS` and its like begin one that ends with `END` and the same word.
+abbrev pub keywords : List (List ℕ × Sort)
+keywords =
+    (codes ";", Semicolon)
+    ∷ (codes "RECT", Rect)
+    ∷ (codes "LAYER", Layer)
+    ∷ (codes "END", End)
+    ∷ (codes "MACRO", Macro)
+    ∷ (codes "SITE", NamedSection)
+    ∷ (codes "VIA", NamedSection)
+    ∷ (codes "NONDEFAULTRULE", NamedSection)
+    ∷ (codes "VIARULE", NamedSection)
+    ∷ (codes "PROPERTYDEFINITIONS", WordSection)
+    ∷ (codes "SPACING", WordSection)
+    ∷ (codes "UNITS", WordSection)
+    ∷ (codes "BEGINEXT", BeginExt)
+    ∷ (codes "LIBRARY", Library)
+    ∷ (codes "ORIGIN", Origin)
+    ∷ (codes "PIN", Pin)
+    ∷ (codes "PORT", Port)
+    ∷ (codes "USE", Use)
+    ∷ (codes "POWER", Power)
+    ∷ (codes "GROUND", Ground)
+    ∷ (codes "OBS", Obs)
+    ∷ (codes "DENSITY", Density)
+    ∷ (codes "(", Bracket)
+    ∷ (codes ")", Bracket) ∷ []
+
+-- The sort of a bare word.
+abbrev pub sort_of_text : List ℕ → Sort
+sort_of_text text = keyword_or keywords Other text
+
+-- The sort of a word of this form. A word in quotes is no keyword and no mark.
+abbrev pub sort_with : Form → List ℕ → Sort
+sort_with Bare text = sort_of_text text
+sort_with EndForm text = TextEnd
+sort_with _ text = Quoted
+
+abbrev pub sort_of : Token → Sort
+sort_of word = sort_with word.form word.text
+
+-- Each sort stands in the list at its number, and there are few.
+pub listed : (sort : Sort) → slice_get all_sorts (number_of sort) ≡ Some sort
+listed Macro = refl
+listed NamedSection = refl
+listed Layer = refl
+listed WordSection = refl
+listed BeginExt = refl
+listed End = refl
+listed Library = refl
+listed Origin = refl
+listed Pin = refl
+listed Port = refl
+listed Use = refl
+listed Power = refl
+listed Ground = refl
+listed Rect = refl
+listed Obs = refl
+listed Density = refl
+listed Semicolon = refl
+listed Bracket = refl
+listed Quoted = refl
+listed Other = refl
+listed TextEnd = refl
+
+pub few : length all_sorts ≤ 64
+few = omega arith

@@ -1,0 +1,263 @@
+//! The faults that the words of a unit show.
+ghost use Rattle.std.specs.Prelude.{◌≡◌, List, true};
+ghost use Rattle.macro_blocks.specs.Fault.{Misplaced, Unless, NoCoordinate, OriginFault, CornerFault, EarlierFault, UseFault, UnfitFault, is_supply, FirstFault, SecondFault, ThirdFault, LaterFault, StopFault};
+ghost use Rattle.macro_blocks.specs.Sort.{the};
+ghost use Rattle.macro_blocks.specs.inside.Held.{IsBad};
+ghost use Rattle.reading.specs.Fault.{Finds};
+ghost use Rattle.reading.specs.Word.{Token, token};
+
+use crate::error::Shown;
+use crate::number::{Bad, coordinate_of, is_number};
+use crate::section::Section;
+use crate::sort::{Sort, sort_of};
+use crate::standing::{Standing, is_known, is_name, is_own, is_stop};
+use number_place::{texts_have_one_number, values_fit_their_places};
+use reading::Word;
+
+/// Why a word that fits or not is refused.
+fn unless(fits: bool) -> Option<Shown>
+    ensures { Finds (Unless fits) result }
+{
+    if fits { None } else { Some(Shown::Syntax) }
+}
+
+/// The same, where it is known what the words are for.
+fn misplaced(known: bool, fits: bool) -> Option<Shown>
+    ensures { Finds (Misplaced known fits) result }
+{
+    if known { unless(fits) } else { None }
+}
+
+/// Why the word is no coordinate.
+fn no_coordinate(word: &Word<'_>) -> Option<Shown>
+    ensures { Finds (NoCoordinate (token word.now)) result }
+{
+    match coordinate_of(word) {
+        Ok(_) => None,
+        Err(error) => Some(Shown::Number(error)),
+    }
+}
+
+/// Why a word of an ORIGIN is refused.
+fn origin_fault(has_origin: bool, word: &Word<'_>) -> Option<Shown>
+    ensures { Finds (OriginFault has_origin (token word.now)) result }
+{
+    texts_have_one_number();
+    values_fit_their_places();
+    let value = match coordinate_of(word) {
+        Ok(value) => value,
+        Err(error) => return Some(Shown::Number(error)),
+    };
+    if value == 0 {
+        return None;
+    }
+    if has_origin {
+        None
+    } else {
+        Some(Shown::Origin)
+    }
+}
+
+/// Why a word in the place of a RECT's number is refused.
+fn corner_fault(known: bool, word: &Word<'_>) -> Option<Shown>
+    ensures { Finds (CornerFault known (token word.now)) result }
+{
+    if !known {
+        return None;
+    }
+    if is_number(word) {
+        no_coordinate(word)
+    } else {
+        Some(Shown::Syntax)
+    }
+}
+
+/// Whether the word is POWER or GROUND.
+fn is_supply(sort: Sort) -> bool
+    ensures { result ≡ is_supply sort }
+{
+    matches!(sort, Sort::Power | Sort::Ground)
+}
+
+/// Whether the word is USE.
+fn is_use(sort: Sort) -> bool
+    ensures { result ≡ the Sort.Use sort }
+{
+    matches!(sort, Sort::Use)
+}
+
+/// The number before a USE that is refused.
+fn earlier_fault(bad: Option<Bad>) -> Option<Shown>
+    ensures { (numbers : List Token) → IsBad numbers bad → Finds (EarlierFault numbers) result }
+{
+    texts_have_one_number();
+    match bad {
+        Some(bad) => Some(Shown::Earlier(bad)),
+        None => None,
+    }
+}
+
+/// What the use of a pin shows.
+fn use_fault(supply: bool, known: bool, bad: Option<Bad>) -> Option<Shown>
+    ensures { (numbers : List Token) → IsBad numbers bad → Finds (UseFault supply known numbers) result }
+{
+    match (supply, known) {
+        (true, false) => earlier_fault(bad),
+        _ => None,
+    }
+}
+
+/// What POWER or GROUND shows where a word before could not stand.
+fn supply_fault(bad: Option<Bad>) -> Shown
+    ensures { (numbers : List Token) → IsBad numbers bad → UnfitFault true true numbers result }
+{
+    match bad {
+        Some(bad) => Shown::Earlier(bad),
+        None => Shown::Syntax,
+    }
+}
+
+/// What a word shows where a word before could not stand.
+fn unfit_fault(supply: bool, after_use: bool, bad: Option<Bad>) -> Option<Shown>
+    ensures { (numbers : List Token) → IsBad numbers bad → Finds (UnfitFault supply after_use numbers) result }
+{
+    match (supply, after_use) {
+        (true, true) => Some(supply_fault(bad)),
+        _ => None,
+    }
+}
+
+/// Why the first word of a unit is refused.
+pub(crate) fn first_fault(
+    section: Section,
+    standing: &Standing<'_>,
+    bad: Option<Bad>,
+    first: Sort,
+) -> Option<Shown>
+    ensures { (numbers : List Token) → IsBad numbers bad →
+        Finds (FirstFault section standing.now numbers first) result }
+{
+    match (section, first) {
+        (Section::Pin | Section::Port | Section::Layered, Sort::Semicolon) => {
+            misplaced(is_known(&standing.pin), false)
+        }
+        (Section::Unfit, _) => unfit_fault(is_supply(first), is_use(standing.last), bad),
+        _ => None,
+    }
+}
+
+/// Why the second word of a pin's unit is refused.
+fn pin_fault(
+    standing: &Standing<'_>,
+    bad: Option<Bad>,
+    first: Sort,
+    second: &Word<'_>,
+) -> Option<Shown>
+    ensures { (numbers : List Token) → IsBad numbers bad →
+        Finds (SecondFault Section.Pin standing.now numbers first (token second.now)) result }
+{
+    let known = is_known(&standing.pin);
+    match first {
+        Sort::End => misplaced(known, is_own(&standing.pin, second)),
+        Sort::Use => use_fault(is_supply(sort_of(second)), known, bad),
+        _ => None,
+    }
+}
+
+/// Why the second word of a macro's unit is refused.
+fn macro_fault(standing: &Standing<'_>, first: Sort, second: &Word<'_>) -> Option<Shown>
+    ensures { (numbers : List Token) →
+        Finds (SecondFault Section.Macro standing.now numbers first (token second.now)) result }
+{
+    match first {
+        Sort::End => unless(standing.cell.is(second)),
+        Sort::Origin => origin_fault(standing.has_origin, second),
+        _ => None,
+    }
+}
+
+/// Why the second word is refused after a first word of this sort in a port or in obstructions.
+fn layered_fault(standing: &Standing<'_>, first: Sort, second: &Word<'_>) -> Option<Shown>
+    ensures { (numbers : List Token) →
+        Finds (SecondFault Section.Layered standing.now numbers first (token second.now)) result }
+{
+    match first {
+        Sort::Layer => misplaced(is_known(&standing.pin), is_name(second)),
+        Sort::Rect => corner_fault(is_known(&standing.pin), second),
+        _ => None,
+    }
+}
+
+/// The same before any LAYER.
+fn port_fault(standing: &Standing<'_>, first: Sort, second: &Word<'_>) -> Option<Shown>
+    ensures { (numbers : List Token) →
+        Finds (SecondFault Section.Port standing.now numbers first (token second.now)) result }
+{
+    match first {
+        Sort::Layer => misplaced(is_known(&standing.pin), is_name(second)),
+        _ => None,
+    }
+}
+
+/// Why the second word of a unit is refused.
+pub(crate) fn second_fault(
+    section: Section,
+    standing: &Standing<'_>,
+    bad: Option<Bad>,
+    first: Sort,
+    second: &Word<'_>,
+) -> Option<Shown>
+    ensures { (numbers : List Token) → IsBad numbers bad →
+        Finds (SecondFault section standing.now numbers first (token second.now)) result }
+{
+    match section {
+        Section::Macro => macro_fault(standing, first, second),
+        Section::Pin => pin_fault(standing, bad, first, second),
+        Section::Port => port_fault(standing, first, second),
+        Section::Layered => layered_fault(standing, first, second),
+        _ => None,
+    }
+}
+
+/// Why the third word of a unit is refused.
+pub(crate) fn third_fault(
+    section: Section,
+    standing: &Standing<'_>,
+    third: &Word<'_>,
+) -> Option<Shown>
+    ensures { Finds (ThirdFault section standing.now (token third.now)) result }
+{
+    match section {
+        Section::Macro => origin_fault(standing.has_origin, third),
+        Section::Layered => corner_fault(is_known(&standing.pin), third),
+        _ => None,
+    }
+}
+
+/// Why a later number of a RECT is refused.
+pub(crate) fn later_fault(
+    section: Section,
+    standing: &Standing<'_>,
+    later: &Word<'_>,
+) -> Option<Shown>
+    ensures { Finds (LaterFault section standing.now (token later.now)) result }
+{
+    match section {
+        Section::Layered => corner_fault(is_known(&standing.pin), later),
+        _ => None,
+    }
+}
+
+/// Why the word after a RECT's numbers is refused.
+pub(crate) fn stop_fault(
+    section: Section,
+    standing: &Standing<'_>,
+    stop: &Word<'_>,
+) -> Option<Shown>
+    ensures { Finds (StopFault section standing.now (token stop.now)) result }
+{
+    match section {
+        Section::Layered => misplaced(is_known(&standing.pin), is_stop(stop)),
+        _ => None,
+    }
+}

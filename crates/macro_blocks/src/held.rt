@@ -1,0 +1,301 @@
+//! What has been read of the text of blocks.
+//!
+//! The numbers of what counts have shown no fault. Where one could not be read all the same, the answer is want of memory,
+//! which no clause ties to anything; it never comes.
+ghost use Rattle.std.specs.Prelude.{◌≡◌, List, [], ◌∷◌, ◌++◌, None, OnOk, IfOk, map};
+ghost use Rattle.std.specs.Int.{int_min, int_max};
+ghost use Rattle.macro_blocks.specs.Number.{IsCoordinate};
+ghost use Rattle.entry_list.specs.InTurn.{InTurn};
+ghost use Rattle.macro_blocks.specs.Record.{Shape, SaysCorners, SaysRect, drawn, nothing_said};
+ghost use Rattle.macro_blocks.specs.Standing.{pin_name};
+ghost use Rattle.macro_blocks.specs.declared.standing.Standing.{Standing as There};
+ghost use Rattle.macro_blocks.specs.inside.Held.{Tells, Holds, Leads};
+ghost use Rattle.reading.specs.Word.{Token, token};
+
+use crate::act::{Act, act_of};
+use crate::label::Label;
+use crate::number::{Bad, bad_in, coordinate_of};
+use crate::record::{BlockMacro, BlockPin, BlockRect};
+use crate::standing::{Standing, is_rect, pin_name};
+use entry_list::Entries;
+use outside::Name;
+use reading::Word;
+use std::alloc::{AllocError, Global};
+use std::mem;
+
+/// What the sections have said: those that have ended, and what is open.
+#[derive(Drop)]
+pub(crate) struct Sections<'a> {
+    pub(crate) macros: Vec<BlockMacro>,
+    /// The pins and the obstructions of the macro that is open.
+    pub(crate) pins: Vec<BlockPin>,
+    pub(crate) obstructions: Vec<BlockRect>,
+    /// The layer and the rectangles of the pin or the obstructions that are open.
+    pub(crate) layer: Label<'a>,
+    pub(crate) rects: Vec<BlockRect>,
+    /// The first number in them that is refused.
+    pub(crate) bad: Option<Bad>,
+}
+
+impl<'a> Sections<'a> {
+    fn new(alloc: Global) -> Sections<'a>
+        ensures { Tells nothing_said result }
+    {
+        Sections {
+            macros: Vec::new(alloc),
+            pins: Vec::new(alloc),
+            obstructions: Vec::new(alloc),
+            layer: Label::new(b""),
+            rects: Vec::new(alloc),
+            bad: None,
+        }
+    }
+}
+
+/// What the units so far say, and where the next one stands.
+#[derive(Drop)]
+pub(crate) struct Held<'a> {
+    pub(crate) said: Sections<'a>,
+    pub(crate) standing: Standing<'a>,
+    pub(crate) alloc: Global,
+}
+
+impl<'a> Held<'a> {
+    pub(crate) fn new(alloc: Global) -> Held<'a>
+        ensures { Holds [] result }
+    {
+        Held {
+            said: Sections::new(alloc),
+            standing: Standing::new(),
+            alloc,
+        }
+    }
+}
+
+/// The coordinate that the word is.
+fn number_of(word: &Word<'_>) -> Result<i64, AllocError>
+    ensures { IfOk result (IsCoordinate (token word.now)) }
+{
+    match coordinate_of(word) {
+        Ok(value) => Ok(value),
+        Err(_) => Err(AllocError),
+    }
+}
+
+/// A corner of a rectangle.
+#[derive(Clone, Copy, Debug)]
+struct Corner {
+    x: i64,
+    y: i64,
+}
+
+/// The corner that two words are.
+fn corner_of(x: &Word<'_>, y: &Word<'_>) -> Result<Corner, AllocError>
+    ensures x { IfOk result (λ corner. IsCoordinate (token x.now) corner.x) }
+    ensures y { IfOk result (λ corner. IsCoordinate (token y.now) corner.y) }
+{
+    Ok(Corner {
+        x: number_of(x)?,
+        y: number_of(y)?,
+    })
+}
+
+/// The least rectangle of two corners.
+fn between(layer: Name, one: Corner, other: Corner) -> BlockRect
+    ensures layer { result.layer ≡ layer }
+    ensures x1 { result.x1 ≡ int_min one.x other.x }
+    ensures y1 { result.y1 ≡ int_min one.y other.y }
+    ensures x2 { result.x2 ≡ int_max one.x other.x }
+    ensures y2 { result.y2 ≡ int_max one.y other.y }
+{
+    BlockRect {
+        layer,
+        x1: one.x.min(other.x),
+        y1: one.y.min(other.y),
+        x2: one.x.max(other.x),
+        y2: one.y.max(other.y),
+    }
+}
+
+/// The rectangle of a whole RECT on this layer.
+fn rect_of(alloc: Global, layer: &Label<'_>, unit: &[Word<'_>]) -> Result<BlockRect, AllocError>
+    ensures layer { IfOk result (λ rect. rect.layer ≡ layer.now) }
+    ensures corners { IfOk result (SaysCorners (map token unit.now)) }
+{
+    let [_, a, b, c, d, _] = unit else {
+        return Err(AllocError);
+    };
+    let one = corner_of(a, b)?;
+    let other = corner_of(c, d)?;
+    Ok(between(Name::new(alloc, layer.bytes())?, one, other))
+}
+
+/// One more rectangle, where the RECT is whole.
+fn add_rect(
+    alloc: Global,
+    rects: &mut Vec<BlockRect>,
+    layer: &Label<'_>,
+    unit: &[Word<'_>],
+) -> Result<(), AllocError>
+    ensures { OnOk result ((shapes : List Shape) → InTurn SaysRect shapes rects.old.items →
+        InTurn SaysRect (shapes ++ drawn layer.now (map token unit.now)) rects.new.items) }
+{
+    if !is_rect(unit) {
+        return Ok(());
+    }
+    rects.push(rect_of(alloc, layer, unit)?)?;
+    Ok(())
+}
+
+/// The pin of this name.
+fn pin_of(
+    alloc: Global,
+    name: &[u8],
+    power: bool,
+    rects: Vec<BlockRect>,
+) -> Result<BlockPin, AllocError>
+    ensures name { IfOk result (λ pin. pin.name ≡ name.now) }
+    ensures power { IfOk result (λ pin. pin.power ≡ power) }
+    ensures rects { IfOk result (λ pin. pin.rects ≡ rects.items) }
+{
+    Ok(BlockPin {
+        name: Name::new(alloc, name)?,
+        power,
+        rects: Entries::new(rects),
+    })
+}
+
+/// The macro of this name.
+fn macro_of(
+    alloc: Global,
+    name: &[u8],
+    pins: Vec<BlockPin>,
+    obstructions: Vec<BlockRect>,
+) -> Result<BlockMacro, AllocError>
+    ensures name { IfOk result (λ cell. cell.name ≡ name.now) }
+    ensures pins { IfOk result (λ cell. cell.pins ≡ pins.items) }
+    ensures obstructions { IfOk result (λ cell. cell.obstructions ≡ obstructions.items) }
+{
+    Ok(BlockMacro {
+        name: Name::new(alloc, name)?,
+        pins: Entries::new(pins),
+        obstructions: Entries::new(obstructions),
+    })
+}
+
+impl<'a> Sections<'a> {
+    /// A pin or obstructions open.
+    fn opens(&mut self)
+        ensures { (there : There) (unit : List Token) → Leads Act.Opens there unit self.old self.new }
+    {
+        self.rects.clear();
+        self.bad = None;
+    }
+
+    /// `LAYER name`.
+    fn names_layer(&mut self, unit: &[Word<'a>]) -> Result<(), AllocError>
+        ensures { OnOk result ((there : There) → Leads Act.Layer there (map token unit.now) self.old self.new) }
+    {
+        let [_, name] = unit else {
+            return Err(AllocError);
+        };
+        self.layer = Label::new(name.text);
+        Ok(())
+    }
+
+    /// A RECT where no number before it is refused.
+    fn draw(&mut self, alloc: Global, unit: &[Word<'_>]) -> Result<(), AllocError>
+        requires { self.now.bad ≡ None }
+        ensures { OnOk result ((there : There) → Leads Act.Draws there (map token unit.now) self.old self.new) }
+    {
+        self.bad = bad_in(unit);
+        match self.bad {
+            Some(_) => Ok(()),
+            None => add_rect(alloc, &mut self.rects, &self.layer, unit),
+        }
+    }
+
+    /// A RECT, or its words up to one that cannot stand there.
+    fn draws(&mut self, alloc: Global, unit: &[Word<'_>]) -> Result<(), AllocError>
+        ensures { OnOk result ((there : There) → Leads Act.Draws there (map token unit.now) self.old self.new) }
+    {
+        match self.bad {
+            Some(_) => Ok(()),
+            None => self.draw(alloc, unit),
+        }
+    }
+
+    /// A pin ends.
+    fn ends_pin(&mut self, alloc: Global, name: &[u8], power: bool) -> Result<(), AllocError>
+        ensures { OnOk result ((there : There) (unit : List Token) → pin_name there.pin ≡ name.now →
+            Leads (Act.EndsPin power) there unit self.old self.new) }
+    {
+        let None = self.bad else {
+            return Err(AllocError);
+        };
+        let rects = mem::replace(&mut self.rects, Vec::new(alloc));
+        self.pins.push(pin_of(alloc, name, power, rects)?)?;
+        Ok(())
+    }
+
+    /// Obstructions end.
+    fn ends_obstructions(&mut self) -> Result<(), AllocError>
+        ensures { OnOk result ((there : There) (unit : List Token) →
+            Leads Act.EndsObstructions there unit self.old self.new) }
+    {
+        let None = self.bad else {
+            return Err(AllocError);
+        };
+        self.obstructions.append(&mut self.rects)?;
+        Ok(())
+    }
+
+    /// A macro ends.
+    fn ends_macro(&mut self, alloc: Global, name: &[u8]) -> Result<(), AllocError>
+        ensures { OnOk result ((there : There) (unit : List Token) → there.cell ≡ name.now →
+            Leads Act.EndsMacro there unit self.old self.new) }
+    {
+        let pins = mem::replace(&mut self.pins, Vec::new(alloc));
+        let obstructions = mem::replace(&mut self.obstructions, Vec::new(alloc));
+        self.macros
+            .push(macro_of(alloc, name, pins, obstructions)?)?;
+        Ok(())
+    }
+
+    /// A unit that does this.
+    fn take(
+        &mut self,
+        alloc: Global,
+        act: Act,
+        standing: &Standing<'a>,
+        unit: &[Word<'a>],
+    ) -> Result<(), AllocError>
+        ensures { OnOk result (Leads act standing.now (map token unit.now) self.old self.new) }
+    {
+        match act {
+            Act::Nothing => Ok(()),
+            Act::Opens => {
+                self.opens();
+                Ok(())
+            }
+            Act::Layer => self.names_layer(unit),
+            Act::Draws => self.draws(alloc, unit),
+            Act::EndsPin(power) => self.ends_pin(alloc, pin_name(&standing.pin), power),
+            Act::EndsObstructions => self.ends_obstructions(),
+            Act::EndsMacro => self.ends_macro(alloc, standing.cell.bytes()),
+        }
+    }
+}
+
+impl<'a> Held<'a> {
+    /// Takes what a whole unit says, and goes on to where it leads.
+    pub(crate) fn take(&mut self, unit: &[Word<'a>]) -> Result<(), AllocError>
+        ensures { OnOk result ((units : List (List Token)) → Holds units self.old →
+            Holds (units ++ map token unit.now ∷ []) self.new) }
+    {
+        let act = act_of(self.standing.section(), &self.standing.pin, unit);
+        self.said.take(self.alloc, act, &self.standing, unit)?;
+        self.standing.go_on(unit);
+        Ok(())
+    }
+}

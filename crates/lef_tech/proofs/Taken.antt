@@ -1,19 +1,22 @@
 -- One more unit is taken.
-use Rattle.std.proofs.Common.{◌≡◌, List, [], ◌∷◌, ◌++◌, Option, Result, Ok, Err, OnOk, refl, sym, ◌∙◌, ap, subst}
+use Rattle.std.proofs.Common.{◌≡◌, List, [], ◌∷◌, ◌++◌, Option, None, Result, Ok, Err, OnOk, if◌then◌else◌, refl, sym, ◌∙◌, ap, subst}
+use Rattle.std.proofs.lemmas.List.{append-nil}
 use Rattle.std.specs.declared.alloc.AllocError.{AllocError}
 use Rattle.lef_tech.specs.declared.held.Held.{Held}
 use Rattle.lef_tech.specs.declared.layer.LayerRef.{LayerRef}
+use Rattle.lef_tech.specs.declared.section.Section.TheVariants.{Passing}
 use Rattle.lef_tech.specs.declared.state.Place.{Place}
 use Rattle.lef_tech.specs.declared.state.State.{State}
 use Rattle.lef_tech.specs.declared.statement.Statement.{Statement}
 use Rattle.lef_tech.specs.declared.text.Shape.{Shape}
+use Rattle.lef_tech.specs.declared.text.Shape.TheVariants.{One}
 use Rattle.lef_tech.specs.declared.turn.Turn.{Turn}
 use Rattle.lef_tech.specs.Format.{format}
 use Rattle.lef_tech.specs.Record.{stated_one}
 use Rattle.lef_tech.specs.Shape.{shape_of}
 use Rattle.lef_tech.specs.State.{first_state}
 use Rattle.lef_tech.specs.Statement.{saying, Says}
-use Rattle.lef_tech.specs.Turn.{turn_of, turned, named, learnt, state_after, state_of}
+use Rattle.lef_tech.specs.Turn.{turn_of, turned, is_in_rule, named_in, named, learnt, state_after, state_of}
 use Rattle.lef_tech.specs.inside.Held.{Holds}
 use Rattle.lef_tech.proofs.Learnt.{learnt_place}
 use Rattle.lef_tech.proofs.Taking.{state_more, told_more, stated_more}
@@ -46,3 +49,13 @@ taken (Ok x) old new unit shape reference told mid s m is says adds moves = λ u
       (subst (λ z. Says (saying old.state.place.section z shape) told) is says)));
   statements = adds ∙ ap (λ z. z ++ stated_one told) h.statements ∙ sym (stated_more h.told told);
 }
+
+-- One more word that is passed over says nothing.
+pub passed_over : (old new : Held) (unit : List Token) (word : Token) → Passing ≡ old.state.place.section → shape_of unit ≡ One word →
+    new.statements.items ≡ old.statements.items → new.state ≡ state_after old.state (One word) →
+    (units : List (List Token)) → Holds units old → IsTaken format units unit → Holds (units ++ unit ∷ []) new
+passed_over old new unit word s one keeps moves =
+    taken (Ok tt) old new unit (One word) None None old.state (sym one) refl
+    (subst (λ z. None ≡ (if is_in_rule z then named_in old.state.layers (One word) else None)) s refl)
+    (subst (λ z. Says (saying z None (One word)) None) s refl)
+    (keeps ∙ sym (append-nil old.statements.items)) moves

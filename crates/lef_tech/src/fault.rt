@@ -1,16 +1,19 @@
 //! The faults that the words of a statement show.
-ghost use Rattle.std.specs.Prelude.{◌≡◌, ◌↔◌, ◌<◌, ◌≤ℤ◌, IsTrue};
+ghost use Rattle.std.specs.Prelude.{◌≡◌, ◌↔◌, ◌<◌, ◌≤ℤ◌, IsTrue, map};
 ghost use Rattle.lef_tech.specs.Fault.{refused_kind, NumberFault, count_kind, MicronsFault, StandsBelow, PointFault, ValueFault, TableEndFault, TwiceFault, UnknownFault, OwnNameFault, LastFault, used_found, UsedFault, Asked, FindsFault, FaultIn};
+ghost use Rattle.lef_tech.specs.Shape.{shape_of};
 ghost use Rattle.reading.specs.Fault.{Finds};
+ghost use Rattle.reading.specs.Word.{token};
 
 use crate::error::TechKind;
 use crate::number::{Quantity, read_number};
 use crate::question::{Question, question_of};
+use crate::section::Section;
 use crate::state::{Place, State};
-use crate::text::{Shape, Term};
+use crate::text::{Shape, Term, shape_of};
 use fixed_decimal::DecimalError;
 use number_place::Refused;
-use reading::{Found, found_at};
+use reading::{Found, Word, found_at};
 
 /// The kind of a number that is refused.
 fn refused_kind(refused: Refused) -> TechKind
@@ -201,7 +204,7 @@ fn asked<'a>(
 }
 
 /// The fault that the last of these words shows.
-pub(crate) fn fault_in<'a>(state: &State<'a>, shape: &Shape<'a>) -> Option<Found<TechKind>>
+fn fault_in<'a>(state: &State<'a>, shape: &Shape<'a>) -> Option<Found<TechKind>>
     ensures { FindsFault (FaultIn state.now shape.now) result }
 {
     let question = question_of(state.place.section, shape);
@@ -213,5 +216,15 @@ pub(crate) fn fault_in<'a>(state: &State<'a>, shape: &Shape<'a>) -> Option<Found
         Shape::Five(_, _, _, d, e) => asked(state, question, d, e, 3),
         Shape::Six(_, _, _, _, e, f) => asked(state, question, e, f, 4),
         Shape::Other => None,
+    }
+}
+
+/// The fault that the last word of the open unit shows; a word that is passed over shows none.
+pub(crate) fn fault_of<'a>(state: &State<'a>, unit: &[Word<'a>]) -> Option<Found<TechKind>>
+    ensures { FindsFault (FaultIn state.now (shape_of (map token unit.now))) result }
+{
+    match state.place.section {
+        Section::Passing => None,
+        _ => fault_in(state, &shape_of(unit)),
     }
 }

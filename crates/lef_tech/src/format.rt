@@ -7,14 +7,14 @@ ghost use Rattle.lef_tech.specs.inside.Held.{Holds};
 ghost use Rattle.reading.specs.Grammar.{IsRegular};
 
 use crate::error::TechKind;
-use crate::fault::fault_in;
+use crate::fault::fault_of;
 use crate::held::{Held, add_told};
-use crate::moving::{move_on, named};
+use crate::moving::{move_on, named, pass_over};
 use crate::pattern::rule;
 use crate::section::Section;
 use crate::sort::{Sort, sort_of};
 use crate::statement::statement_of;
-use crate::text::shape_of;
+use crate::text::{only_word, shape_of};
 use number_place::texts_have_one_number;
 use reading::{Found, Grammar, Rule, Word};
 use std::alloc::AllocError;
@@ -60,7 +60,7 @@ impl<'a> Grammar<'a> for TechFormat {
     }
 
     fn fault(&self, said: &Held<'a>, unit: &[Word<'a>]) -> Option<Found<TechKind>> {
-        fault_in(&said.state, &shape_of(unit))
+        fault_of(&said.state, unit)
     }
 
     fn ends(&self, said: &Held<'a>) -> bool {
@@ -68,8 +68,12 @@ impl<'a> Grammar<'a> for TechFormat {
     }
 
     fn take(&self, said: &mut Held<'a>, unit: &[Word<'a>]) -> Result<(), AllocError> {
-        let shape = shape_of(unit);
         let section = said.state.place.section;
+        if let (Section::Passing, Some(word)) = (section, only_word(unit)) {
+            pass_over(&mut said.state, &word);
+            return Ok(());
+        }
+        let shape = shape_of(unit);
         let reference = named(&mut said.state, &shape)?;
         let told = statement_of(said.alloc, section, reference, &shape)?;
         add_told(&mut said.statements, told)?;

@@ -1,5 +1,7 @@
 //! What is known after one more unit.
 ghost use Rattle.std.specs.Prelude.{◌≡◌, IfOk, OnOk};
+ghost use Rattle.lef_tech.specs.declared.section.Section.TheVariants as sections;
+ghost use Rattle.lef_tech.specs.declared.text.Shape.TheVariants.{One};
 ghost use Rattle.lef_tech.specs.Turn.{turn_of, open_passing, turned, is_in_rule, named, typed, learnt_start, ruled, learnt_top, learnt, state_after};
 
 use crate::layer::LayerRef;
@@ -181,4 +183,12 @@ pub(crate) fn move_on<'a>(
     let next = turn_of(state.place.section, reference, shape);
     learn(state, shape)?;
     turn(&mut state.place, next)
+}
+
+/// What is known after one more word of what is passed over.
+pub(crate) fn pass_over<'a>(state: &mut State<'a>, word: &Term<'a>)
+    requires { state.old.place.section ≡ sections.Passing }
+    ensures { state.new ≡ state_after state.old (One word.now) }
+{
+    pass_word(&mut state.place, word);
 }

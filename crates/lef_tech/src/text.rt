@@ -1,8 +1,9 @@
 //! The words of a unit, as its faults and its meaning look at them.
-ghost use Rattle.std.specs.Prelude.{◌≡◌, map};
+ghost use Rattle.std.specs.Prelude.{◌≡◌, IfSome, map};
 ghost use Rattle.lef_statements.specs.Passing.{passing_after};
 ghost use Rattle.lef_statements.specs.Word.{is_word};
 ghost use Rattle.lef_tech.specs.Shape.{shape_of};
+ghost use Rattle.lef_tech.specs.declared.text.Shape.TheVariants.{One};
 ghost use Rattle.lef_tech.specs.Sort.{sort_of};
 ghost use Rattle.reading.specs.Word.{token};
 
@@ -144,5 +145,15 @@ pub(crate) fn shape_of<'a>(unit: &[Word<'a>]) -> Shape<'a>
             Term::new(*f),
         ),
         _ => Shape::Other,
+    }
+}
+
+/// The word of a unit that has no other.
+pub(crate) fn only_word<'a>(unit: &[Word<'a>]) -> Option<Term<'a>>
+    ensures { IfSome result (λ word. shape_of (map token unit.now) ≡ One word) }
+{
+    match unit {
+        [word] => Some(Term::new(*word)),
+        _ => None,
     }
 }

@@ -1,3 +1,4 @@
+mod Naming
 mod Reading
 mod Refusing
 mod Signs

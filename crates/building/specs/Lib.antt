@@ -2,6 +2,7 @@ pub mod Inputs
 pub mod Kinds
 pub mod Reading
 pub mod Building
+pub mod Checked
 pub mod Refusal
 pub mod Solutions
 pub mod inside

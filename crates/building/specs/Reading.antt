@@ -1,10 +1,13 @@
 -- The reading of the five texts: what they say together, and which of them is refused first.
-use Rattle.std.specs.Prelude.{◌≡◌, ◌⊎◌, ℕ, List, Option, Some, None, Result, Ok, Err}
+use Rattle.std.specs.Prelude.{◌≡◌, ◌⊎◌, ℕ, List, All, Option, Some, None, Result, Ok, Err}
+use Rattle.text_lex.specs.Name.{IsName}
 use Rattle.outside.specs.declared.place.Place.{Place}
 use Rattle.answers.specs.declared.answer.Answer.{Answer}
 use Rattle.answers.specs.declared.answer.Answer.TheVariants.{Want, Refused}
 use Rattle.answers.specs.declared.kind.TextKind.{TextKind}
 use Rattle.reading.specs.declared.error.ReadError.{ReadError}
+use Rattle.lef_tech.specs.declared.layer.RoutingLayer.{RoutingLayer}
+use Rattle.lef_tech.specs.declared.tech.Tech.{Tech}
 use Rattle.lef_tech.specs.Format.{ReadsTech}
 use Rattle.lef_tech.specs.Limits.{TechKeeps}
 use Rattle.lef_cells.specs.declared.record.Cells.{Cells}
@@ -30,9 +33,14 @@ pub record AreCellsOf (lef other : List ℕ) (cells : Cells) : Type 0 where
   pub sites : cells.sites ≡ joined (λ site. site.name) first.sites second.sites
   pub macros : cells.macros ≡ joined (λ cell. cell.name) first.macros second.macros
 
--- The records keep the limits of their formats.
+-- The names of the routing layers are names of LEF.
+abbrev pub HasLayerNames : Tech → Type 0
+HasLayerNames tech = All (λ (layer : RoutingLayer). IsName layer.name) tech.routing
+
+-- The records keep the limits of their formats, and the routing layers have names of LEF.
 pub record RecordsKeep (r : Records) : Type 0 where
   pub tech : TechKeeps r.tech
+  pub layer_names : HasLayerNames r.tech
   pub cells : CellsKeep r.cells
   pub design : DesignKeeps r.design
   pub script : ScriptKeeps r.script

@@ -13,7 +13,7 @@ ghost use Rattle.bias_file.specs.Format.{ReadsBias};
 ghost use Rattle.bias_file.specs.Limits.{BiasKeeps};
 ghost use Rattle.building.specs.Inputs.{file_text, five_texts};
 ghost use Rattle.building.specs.Kinds.{tech_kind, cells_kind, def_kind, script_kind, bias_kind};
-ghost use Rattle.building.specs.Reading.{text_answer, RecordsKeep, AreCellsOf, AreRecords, IsRefused, IsUnread};
+ghost use Rattle.building.specs.Reading.{text_answer, HasLayerNames, RecordsKeep, AreCellsOf, AreRecords, IsRefused, IsUnread};
 ghost use Rattle.building.specs.inside.Stages.{AreCellsRefused};
 
 use crate::input::{Input, Inputs};
@@ -26,6 +26,7 @@ use lef_cells::{Cells, read_cells};
 use lef_tech::{Tech, read_tech};
 use outside::{Name, Place};
 use pdn_script::{Script, read_script};
+use read_names::read_techs_have_names;
 use std::alloc::Global;
 
 /// What the five texts say.
@@ -54,8 +55,10 @@ pub(crate) fn read_all(alloc: Global, inputs: &Inputs) -> Result<Records, Answer
 fn tech_of(alloc: Global, input: &Input) -> Result<Tech, Answer>
     ensures reads { IfOk result (λ tech. ReadsTech input.now.text.now (Ok tech)) }
     ensures keeps { IfOk result TechKeeps }
+    ensures names { IfOk result HasLayerNames }
     ensures refused { IfErr result (λ answer. (answer ≡ Want) ⊎ IsRefused ReadsTech tech_kind (file_text input.now) answer) }
 {
+    read_techs_have_names();
     match read_tech(alloc, input.text) {
         Ok(tech) => Ok(tech),
         Err(error) => Err(refused(alloc, input.file, error.place, tech_kind(error.kind))),

@@ -6,6 +6,8 @@ ghost use Rattle.bound_check.specs.Certified.{Certificate};
 ghost use Rattle.def_writer.specs.Limits.{GridFits};
 ghost use Rattle.lef_tech.specs.Limits.{TechKeeps};
 ghost use Rattle.signoff_report.specs.Limits.{AreLimitsOf};
+ghost use Rattle.solving.specs.Signed.{EachIsSupplied};
+ghost use Rattle.written_netlists.specs.Fits.{CanBeWritten};
 ghost use Rattle.building.specs.Building.{numbers_of};
 ghost use Rattle.building.specs.inside.Stages.{SignsNetwork, AreTextsOf, LacksSupplyAt};
 ghost use Rattle.signoff_report.specs.Counted.{summary_of};
@@ -21,6 +23,7 @@ use entry_list::Entries;
 use grid_net::{Note, Solver};
 use grid_network::Extracted;
 use grid_pieces::Grid;
+use network_texts::checked_as_written;
 use outside::Name;
 use signoff_report::{Limits, Summary, report_text, summary, verdicts_hold};
 use solving::unsupplied;
@@ -42,6 +45,7 @@ pub(crate) fn sign_network<V: Solver>(
     requires grid { GridFits records.now.tech grid.now }
     requires names { length extracted.names ≡ extracted.net.nodes }
     requires limits { AreLimitsOf extracted.net limits.now }
+    requires written { EachIsSupplied extracted.net → CanBeWritten extracted.net extracted.names extracted.notes }
     ensures signed { IfOk result (SignsNetwork (V.told solver.old) records.now grid.now extracted limits.now) }
     ensures refused { IfErr result (LacksSupplyAt extracted) }
     ensures asked { IsOk result → Rose (V.proposals solver.old) (V.proposals solver.new) }
@@ -54,6 +58,7 @@ pub(crate) fn sign_network<V: Solver>(
         ..
     } = extracted;
     let names = names.as_slice();
+    checked_as_written(names);
     if let Err(node) = net.supply() {
         return Err(unsupplied(alloc, names, node));
     }

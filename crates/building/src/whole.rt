@@ -2,6 +2,7 @@
 ghost use Rattle.std.specs.Prelude.{◌≡◌, IsOk, IfOk, IfErr};
 ghost use Rattle.outside.specs.Counts.{Rose};
 ghost use Rattle.building.specs.Building.{Design, IsGridOf, IsDesignOf, AreOutputsOf};
+ghost use Rattle.building.specs.Checked.{PassesCheck};
 ghost use Rattle.building.specs.Inputs.{five_texts};
 ghost use Rattle.building.specs.Reading.{RecordsKeep};
 ghost use Rattle.building.specs.Refusal.{IsUnbuilt};
@@ -21,6 +22,7 @@ use drawn_grids::{
 use grid_limits::limits;
 use grid_net::Solver;
 use grid_pieces::Grid;
+use network_texts::extracted_networks_can_be_written;
 use std::alloc::Global;
 
 /// Builds the power grid of five texts and signs it off with what the solver proposes.
@@ -31,10 +33,11 @@ use std::alloc::Global;
 /// without supply, or to want of memory.
 pub fn build<V: Solver>(alloc: Global, inputs: &Inputs, solver: &mut V) -> Result<Outputs, Answer>
     // The outputs are the texts of the grid that the script draws over the design, of its network, of a tight certificate
-    // and of the report, and every solution of the network keeps what the report says.
+    // and of the report; every solution of the network keeps what the report says; and who checks the certificate finds
+    // that it holds.
     ensures built { IfOk result (λ outputs. (design : Design)
         × IsDesignOf (V.told solver.old) (five_texts inputs.now) design × AreOutputsOf design outputs
-        × SolutionsKeep design.extracted.net design.certificate design.limits) }
+        × SolutionsKeep design.extracted.net design.certificate design.limits × PassesCheck design outputs) }
     ensures refused { IfErr result (IsUnbuilt (five_texts inputs.now)) }
     // The solver was asked, and what it tells stays.
     ensures asked { IsOk result → Rose (V.proposals solver.old) (V.proposals solver.new) }
@@ -79,6 +82,7 @@ fn sign_grid<V: Solver>(
     each_node_has_a_name();
     branches_are_of_the_grid();
     limits_are_of_the_network();
+    extracted_networks_can_be_written();
     // More nets than 32 bits can number are want of memory.
     if grid.nets.as_slice().len() > u32::MAX as usize {
         return Err(Answer::Want);

@@ -1,5 +1,5 @@
 -- What follows from the cause of an answer of `build` and the way in which the run ends with it.
-use Rattle.std.proofs.Common.{◌≡◌, ◌≤◌, ◌<◌, ◌⊎◌, inl, inr, ℕ, zero, suc, ℤ, List, Option, Some, None, length, refl, sym, ap, subst, ◌∙◌, arith}
+use Rattle.std.proofs.Common.{◌≡◌, ◌≤◌, ◌<◌, ◌⊎◌, inl, inr, ℕ, zero, suc, ℤ, List, [], Option, Some, None, length, unwrap_or, refl, sym, ap, subst, ◌∙◌, arith}
 use Rattle.outside.specs.Counts.{Rose}
 use Rattle.outside.specs.Files.{Holdings, bytes_in}
 use Rattle.outside.specs.Known.{WhereKnown}
@@ -10,16 +10,21 @@ use Rattle.answers.specs.Answer.{status_of, built_status}
 use Rattle.building.specs.declared.outputs.Outputs.{Outputs}
 use Rattle.building.specs.Inputs.{FileText, FiveTexts}
 use Rattle.building.specs.Refusal.{IsUnbuilt}
+use Rattle.certificate_file.specs.declared.lists.Lists.{Lists}
 use Rattle.command_words.specs.declared.command.Command.{Command}
 use Rattle.command_words.specs.declared.command.Command.TheVariants.{Build, Check, Solve, Generate}
+use Rattle.grid_net.specs.Certificate.{IsCertificate}
 use Rattle.input_files.specs.Inputs.{name_at}
+use Rattle.judging.specs.Texts.{StandFor}
 use Rattle.output_files.specs.Outputs.{HoldEach}
+use Rattle.short_merge.specs.declared.merged.Merged.{Merged}
+use Rattle.spice_grid.specs.declared.named.Named.{Named}
 use Rattle.pdn_signoff.specs.declared.build_files.BuildFiles.{BuildFiles}
 use Rattle.pdn_signoff.specs.Words.{IsBuild}
 use Rattle.pdn_signoff.specs.Check.{FilesThen, IsTooLong}
 use Rattle.pdn_signoff.specs.Solve.{SolverThen, IsKept}
 use Rattle.pdn_signoff.specs.Build.{files_read, files_written, output_texts, IsInput, AreInputs, BuildsFiles, RefusesFiles, IsFirstUnread, LeavesBuilt, AreAccepted, Builds}
-use Rattle.pdn_signoff.specs.Command.{SinkThen, IsCause, Ends, ChangesAmong}
+use Rattle.pdn_signoff.specs.Command.{SinkThen, IsCause, Ends, LeavesBuildAccepted, ChangesAmong}
 use Rattle.pdn_signoff.proofs.Causes.{Ran, AreLaws, unhindered}
 use Rattle.pdn_signoff.proofs.Building.{IsBuilt, low_status, built_so, files_alone, kept_among, failed_write}
 
@@ -130,6 +135,29 @@ leaves told f outputs status is None (Some y) builds holds = holds
 leaves told f outputs status is (Some x) None builds holds = holds
 leaves told f outputs status is (Some x) (Some y) builds holds = record { outputs = outputs; builds = builds; files = holds; status_is = is }
 
+-- ---- what is built passes `check`
+accepts : (f : BuildFiles) (outputs : Outputs) (named : Named) (merged : Merged) (lists : Lists) (k l : Option Holdings) → StandFor outputs.netlist outputs.certificate named merged lists → IsCertificate merged.net lists.high lists.low
+    → WhereKnown (HoldEach (output_texts f outputs)) k l → WhereKnown (LeavesBuildAccepted f) k l
+accepts f outputs named merged lists None None stand certified holds = tt
+accepts f outputs named merged lists None (Some y) stand certified holds = holds
+accepts f outputs named merged lists (Some x) None stand certified holds = holds
+accepts f outputs named merged lists (Some x) (Some y) stand certified holds = λ netlist_fits certificate_fits words is.
+    let netlist : outputs.netlist ≡ bytes_in y f.netlist = ap (λ o. unwrap_or o []) (sym (holds.each 1 ([], []) (omega arith))) in
+    let certificate : outputs.certificate ≡ bytes_in y f.certificate = ap (λ o. unwrap_or o []) (sym (holds.each 2 ([], []) (omega arith))) in (
+      named,
+      merged,
+      lists,
+      record {
+        netlist = f.netlist;
+        certificate = f.certificate;
+        words_are = is;
+        netlist_fits = netlist_fits;
+        certificate_fits = certificate_fits;
+        texts = subst (λ t. StandFor t (bytes_in y f.certificate) named merged lists) netlist (subst (λ t. StandFor outputs.netlist t named merged lists) certificate stand);
+      },
+      certified,
+    )
+
 module _ (laws : AreLaws) (words : List (List ℕ)) (solver solver' : SolverThen) (before after : FilesThen) (result : ℕ) (out out' : SinkThen) where
   -- No file changes but the four outputs.
   pub among_built : Ran words solver solver' before after result out out' → (f : BuildFiles) → IsBuild words f → WhereKnown (ChangesAmong (files_written f)) before.known after.known
@@ -150,6 +178,10 @@ module _ (laws : AreLaws) (words : List (List ℕ)) (solver solver' : SolverThen
   -- After the status 0 or 1 the outputs hold what was built.
   pub built : Ran words solver solver' before after result out out' → (f : BuildFiles) → IsBuild words f → (result ≡ 0) ⊎ (result ≡ 1) → WhereKnown (LeavesBuilt solver.told f result) before.known after.known
   built ran f is low = let b = built_in ran f is low in leaves solver.told f b.outputs result b.status_is before.known after.known b.builds b.written
+
+  -- Then `check` accepts the netlist and the certificate.
+  pub accepted_built : Ran words solver solver' before after result out out' → (f : BuildFiles) → IsBuild words f → (result ≡ 0) ⊎ (result ≡ 1) → WhereKnown (LeavesBuildAccepted f) before.known after.known
+  accepted_built ran f is low = let b = built_in ran f is low in let checked = b.builds.checked in accepts f b.outputs _ _ _ before.known after.known checked.texts checked.holds b.written
 
   -- Then the solver was asked.
   pub asked_built : Ran words solver solver' before after result out out' → (f : BuildFiles) → IsBuild words f → (result ≡ 0) ⊎ (result ≡ 1) → Rose solver.proposals solver'.proposals

@@ -9,6 +9,7 @@ use Rattle.answers.specs.declared.built.Built.{Built as Numbers}
 use Rattle.answers.specs.declared.answer.Answer.TheVariants.{Usage, Want, ReadFault, WriteFault, TooLong, Refused, NoGrid, Range, PadConflict, Unsupplied, Built, Generated, Solved, Certified, NotCertified}
 use Rattle.building.specs.declared.outputs.Outputs.{Outputs}
 use Rattle.building.specs.Building.{Design, IsDesignOf, AreOutputsOf}
+use Rattle.building.specs.Checked.{PassesCheck}
 use Rattle.building.specs.Inputs.{FileText, FiveTexts}
 use Rattle.building.specs.Refusal.{IsUnbuilt}
 use Rattle.building.specs.Solutions.{SolutionsKeep}
@@ -47,7 +48,8 @@ pub record AreInputs (known : Option Holdings) (f : BuildFiles) (t : FiveTexts) 
   pub bias : IsInput known f.bias t.bias
 
 -- The texts of the files are built into these outputs: the texts of the grid that the script draws over the design, of its
--- network, of a tight certificate and of the report; and every solution of the network keeps what the report says.
+-- network, of a tight certificate and of the report; every solution of the network keeps what the report says; and who
+-- checks the certificate finds that it holds.
 pub record BuildsFiles (told : Option (List ℤ × List ℤ)) (known : Option Holdings) (f : BuildFiles) (outputs : Outputs)
     : Type 0 where
   pub texts : FiveTexts
@@ -56,6 +58,7 @@ pub record BuildsFiles (told : Option (List ℤ × List ℤ)) (known : Option Ho
   pub is_design : IsDesignOf told texts design
   pub are_outputs : AreOutputsOf design outputs
   pub keep : SolutionsKeep design.extracted.net design.certificate design.limits
+  pub checked : PassesCheck design outputs
 
 -- The files were read without a fault, and nothing is built of their texts; no file was written.
 abbrev pub RefusesFiles : FilesThen → FilesThen → BuildFiles → Answer → Type 0

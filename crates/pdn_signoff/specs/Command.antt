@@ -100,13 +100,24 @@ pub record LeavesSigned (told : Option (List ℤ × List ℤ)) (netlist certific
   pub within : LieWithinReport named merged bounds
   pub files : HoldsBoth certificate report signed.certificate signed.report old new
 
--- What a solved netlist leaves passes `check`: whatever words of `check` name these two files, their texts are there, and
--- the certificate holds on the merged network of the netlist. So `check` ends with 0, where no call fails and memory
--- lasts. It is asked where the certificate has at most as many bytes as an input may have.
+-- Two files pass `check` as they are held: whatever words of `check` name them, their texts are there, and the certificate
+-- holds on the merged network of the netlist. So `check` ends with 0, where no call fails and memory lasts.
+abbrev pub AreAcceptedFiles : (netlist certificate : List ℕ) → Holdings → Type 0
+AreAcceptedFiles netlist certificate held =
+    (words : List (List ℕ)) → IsCheck words netlist certificate → HasCertificate words held
+
+-- What a solved netlist leaves passes `check`. It is asked where the certificate has at most as many bytes as an input may
+-- have; the netlist, which was read, has.
 abbrev pub LeavesAccepted : (netlist certificate : List ℕ) → Holdings → Holdings → Type 0
 LeavesAccepted netlist certificate old new =
-    length (bytes_in new certificate) ≤ longest_text → (words : List (List ℕ)) → IsCheck words netlist certificate
-    → HasCertificate words new
+    length (bytes_in new certificate) ≤ longest_text → AreAcceptedFiles netlist certificate new
+
+-- What a build leaves passes `check`. It is asked where the netlist and the certificate have at most as many bytes as an
+-- input may have.
+abbrev pub LeavesBuildAccepted : BuildFiles → Holdings → Holdings → Type 0
+LeavesBuildAccepted f old new =
+    length (bytes_in new f.netlist) ≤ longest_text → length (bytes_in new f.certificate) ≤ longest_text
+    → AreAcceptedFiles f.netlist f.certificate new
 
 -- No file but these two changes.
 abbrev pub ChangesOnly : (one other : List ℕ) → Holdings → Holdings → Type 0

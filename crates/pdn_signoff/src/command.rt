@@ -16,7 +16,7 @@ ghost use Rattle.spice_grid.specs.declared.named.Named.{Named};
 ghost use Rattle.pdn_signoff.specs.Check.{FilesThen};
 ghost use Rattle.pdn_signoff.specs.Solve.{SolverThen};
 ghost use Rattle.pdn_signoff.specs.declared.design_files.DesignFiles.{DesignFiles as Names};
-ghost use Rattle.pdn_signoff.specs.Command.{IsCause, CanRise, Ends, PrintEnds, IsCheckOf, HasCertificate, IsSolveOf, LeavesSigned, LeavesAccepted, ChangesOnly, ChangesAmong, AreAlike};
+ghost use Rattle.pdn_signoff.specs.Command.{IsCause, CanRise, Ends, PrintEnds, IsCheckOf, HasCertificate, IsSolveOf, LeavesSigned, LeavesAccepted, LeavesBuildAccepted, ChangesOnly, ChangesAmong, AreAlike};
 ghost use Rattle.pdn_signoff.specs.Generate.{file_names, design_texts};
 ghost use Rattle.building.specs.Inputs.{FiveTexts};
 ghost use Rattle.pdn_signoff.specs.declared.build_files.BuildFiles.{BuildFiles as BuildNames};
@@ -173,6 +173,10 @@ pub fn run<F: Files, O: Sink, V: Solver>(
     // files held at entry and hold after the call, where that is known.
     ensures built { (names : BuildNames) → IsBuild words.now names → (result ≡ 0) ⊎ (result ≡ 1)
         → WhereKnown (LeavesBuilt (V.told solver.old) names result) (F.known files.old) (F.known files.new) }
+
+    // Then `check` over the netlist and the certificate accepts them, where it is known what the files hold.
+    ensures build_accepted { (names : BuildNames) → IsBuild words.now names → (result ≡ 0) ⊎ (result ≡ 1)
+        → WhereKnown (LeavesBuildAccepted names) (F.known files.old) (F.known files.new) }
 
     // Then the solver was asked.
     ensures build_asked { (names : BuildNames) → IsBuild words.now names → (result ≡ 0) ⊎ (result ≡ 1)

@@ -15,6 +15,7 @@ use Rattle.solving.specs.Signed.{EachIsSupplied, IsMadeOf}
 use Rattle.spice_grid.specs.Written.{written_netlist}
 use Rattle.building.specs.declared.outputs.Outputs.{Outputs}
 use Rattle.building.specs.Building.{Design, IsGridOf, IsNetworkOfGrid, AreLimitsOfGrid, AreOutputsOf, numbers_of}
+use Rattle.building.specs.Checked.{PassesCheck}
 use Rattle.building.specs.Solutions.{SolutionsKeep}
 use Rattle.grid_extract.specs.Extraction.{IsExtractRefused}
 use Rattle.grid_network.specs.declared.error.ExtractError.{ExtractError}
@@ -76,6 +77,7 @@ pub record SignsNetwork (told : Option (List ℤ × List ℤ)) (r : Records) (gr
   pub certified : IsMadeOf told e.net certificate
   pub are_outputs : AreOutputsOf (design_of r grid e limits certificate) outputs
   pub keep : SolutionsKeep e.net certificate limits
+  pub checked : PassesCheck (design_of r grid e limits certificate) outputs
 
 -- Memory ran out, or a node of the network has no supply.
 abbrev pub LacksSupplyAt : Extracted → Answer → Type 0

@@ -1,7 +1,9 @@
 use Rattle.std.proofs.Common.{◌<◌, ◌^◌, ℕ, List, All, length, sym, subst, arith}
-use Rattle.grid_limits.specs.Limits.{AreGridLimits, IsBranchOf}
+use Rattle.std.proofs.lemmas.Result.{IfOk-weaker}
+use Rattle.grid_limits.specs.Limits.{IsBranchOf}
 use Rattle.grid_network.specs.declared.branch.Branch.{Branch}
-use Rattle.grid_network.specs.declared.key.Key.{Key}
+use Rattle.building.proofs.Naming.{are_names}
+use Rattle.building.proofs.Signs.{limits_of_grid}
 use Rattle.building.proofs.whole.sign_grid.Goals as goal
 
 pub network_of-requires-clause-grid : goal.network_of-requires-clause-grid
@@ -33,7 +35,24 @@ sign_network-requires-clause-limits g c =
     let grid = c.args.grid.now in
     let e = c.in-Ok.extracted in
     let few : length grid.nets < 2 ^ 32 = subst (λ (nets : List (List ℕ)). length nets < 2 ^ 32) c.as_slice.ensures (omega (arith, c.if-as_slice.false)) in
-    let limits : AreGridLimits r.tech grid e.keys e.branches r.bias c.in-Ok-limits.limits =
-    subst (λ (keys : List Key). AreGridLimits r.tech grid keys e.branches r.bias c.in-Ok-limits.limits) c.as_slice-keys.ensures
-    (subst (λ (branches : List Branch). AreGridLimits r.tech grid c.as_slice-keys.result.now branches r.bias c.in-Ok-limits.limits) c.as_slice-branches.ensures c.in-Ok-limits.ensures) in
+    let limits = limits_of_grid r grid e c.in-Ok-limits.limits c.as_slice-keys.result.now c.as_slice-branches.result.now c.as_slice-keys.ensures c.as_slice-branches.ensures c.in-Ok-limits.ensures in
     c.limits_are_of_the_network.ensures.limits r.tech r.cells r.design grid r.bias e c.in-Ok-limits.limits c.requires.keep.bias few c.in-Ok.ensures.network limits
+
+pub sign_network-requires-clause-written : goal.sign_network-requires-clause-written
+sign_network-requires-clause-written g c =
+    let r = c.args.records.now in
+    let grid = c.args.grid.now in
+    c.extracted_networks_can_be_written.ensures r.tech r.cells r.design grid r.bias c.in-Ok.extracted c.requires.keep.bias (are_names r grid c.requires.keep c.requires.grid) c.in-Ok.ensures.network
+
+pub returns-clause-signed : goal.returns-clause-signed
+returns-clause-signed g c =
+    let r = c.args.records.now in
+    let grid = c.args.grid.now in
+    let e = c.in-Ok.extracted in
+    IfOk-weaker c.sign_network.result _ _ (λ outputs is. record {
+      extracted = e;
+      limits = c.in-Ok-limits.limits;
+      network = c.in-Ok.ensures.network;
+      limits_are = limits_of_grid r grid e c.in-Ok-limits.limits c.as_slice-keys.result.now c.as_slice-branches.result.now c.as_slice-keys.ensures c.as_slice-branches.ensures c.in-Ok-limits.ensures;
+      signs = is;
+    }) c.sign_network.ensures.signed

@@ -36,7 +36,7 @@ returns-in-Ok-build_texts-clause-builds g c =
     let texts = c.in-Ok.texts.items in
     let read : AreRead before.known f texts = are_read before.known f c.names_read-read.result texts c.names_read-read.ensures c.in-Ok.ensures.count c.in-Ok.ensures.texts c.in-Ok.ensures.fit in
     let same : five_texts c.inputs_of.result ≡ five_of f texts = c.inputs_of.ensures ∙ ap (five_of f) c.deref.ensures.value in
-    let (design, is_design, are_outputs, keep) = c.in-Ok-build_texts.ensures.built in
+    let (design, is_design, are_outputs, keep, checked) = c.in-Ok-build_texts.ensures.built in
     let builds : BuildsFiles solver.told before.known f outputs = record {
       texts = five_of f texts;
       are_inputs = inputs_known before.known f texts read;
@@ -44,6 +44,7 @@ returns-in-Ok-build_texts-clause-builds g c =
       is_design = subst (λ (t : FiveTexts). IsDesignOf solver.told t design) same is_design;
       are_outputs = are_outputs;
       keep = keep;
+      checked = checked;
     } in
     let written : WritesBuilt before after f outputs c.write_built.result =
     subst (λ (files : FilesThen). WritesBuilt files after f outputs c.write_built.result) (same_files mid before c.in-Ok.ensures.kept c.in-Ok.ensures.calm) c.write_built.ensures in

@@ -1,6 +1,6 @@
 use Rattle.pdn_signoff.specs.Solve.{SolverThen}
 use Rattle.pdn_signoff.proofs.Causes.{AreLaws, check_writes_nothing, ran_other, kept, calm, usage, refused, certified, judged, bounded}
-use Rattle.pdn_signoff.proofs.Completing.{among_built, built, asked_built, completed}
+use Rattle.pdn_signoff.proofs.Completing.{among_built, built, accepted_built, asked_built, completed}
 use Rattle.pdn_signoff.proofs.Making.{among, generated, made}
 use Rattle.pdn_signoff.proofs.Signing.{AreSolvingLaws, others, signed, accepted, asked, solved}
 use Rattle.pdn_signoff.proofs.command.run.Goals as goal
@@ -185,6 +185,18 @@ returns-clause-built g c =
       one_command = c.words_have_one_command.ensures;
     } in
     built laws _ s s' _ _ _ _ _ c.run_command.ensures.answer
+
+pub returns-clause-build_accepted : goal.returns-clause-build_accepted
+returns-clause-build_accepted g c =
+    let s : SolverThen = record { told = g.V.Solver.told c.args.solver.now; proposals = g.V.Solver.proposals c.args.solver.now } in
+    let s' : SolverThen = record { told = g.V.Solver.told c.run_command.new.solver; proposals = g.V.Solver.proposals c.run_command.new.solver } in
+    let laws : AreLaws = record {
+      one = c.texts_are_judged_once.ensures.one;
+      tested = c.texts_are_judged_once.ensures.tested;
+      bounded = c.texts_are_judged_once.ensures.bounded;
+      one_command = c.words_have_one_command.ensures;
+    } in
+    accepted_built laws _ s s' _ _ _ _ _ c.run_command.ensures.answer
 
 pub returns-clause-build_asked : goal.returns-clause-build_asked
 returns-clause-build_asked g c =

@@ -7,7 +7,7 @@ use Rattle.macro_blocks.specs.declared.section.Section.TheVariants as places
 use Rattle.macro_blocks.specs.declared.sort.Sort.{Sort}
 use Rattle.macro_blocks.specs.declared.sort.Sort.TheVariants.{Macro, NamedSection, Layer, WordSection, BeginExt, End, Library, Origin, Pin, Port, Use, Power, Ground, Rect, Obs, Density, Semicolon, Bracket, Quoted, Other, TextEnd}
 use Rattle.macro_blocks.specs.declared.standing.Standing.{Standing}
-use Rattle.macro_blocks.specs.Fault.{Unless, Misplaced, NoCoordinate, OtherOrigin, OriginFault, CornerBy, CornerFault, EarlierFault, UseFault, UnfitFault, is_supply, FirstFault, SecondFault, ThirdFault, LaterFault, StopFault, fault_in}
+use Rattle.macro_blocks.specs.Fault.{Unless, Misplaced, NoCoordinate, OtherOrigin, OriginFault, CornerBy, CornerFault, EarlierFault, UseFault, UnfitFault, is_supply, StrayFault, FirstFault, SecondFault, ThirdFault, LaterFault, StopFault, fault_in}
 use Rattle.macro_blocks.specs.Format.{format, section_of}
 use Rattle.macro_blocks.specs.Record.{heard_of}
 use Rattle.macro_blocks.specs.Rule.{is_name, is_number, pattern}
@@ -131,10 +131,14 @@ unfit_one one true true numbers k l (inr h) (inr i) = i.1 ∙ sym h.1
 unfit_one one true false numbers k l h i = absurd h
 unfit_one one false after numbers k l h i = absurd h
 
+stray_one : (known : Bool) (first : Sort) → IsOne (StrayFault known first)
+stray_one known Semicolon k l h i = misplaced_one known false k l h i
+stray_one known first k l h i = absurd h
+
 first_one : HasOne → (section : Section) (standing : Standing) (numbers : List Token) (first : Sort) → IsOne (FirstFault section standing numbers first)
-first_one one places.Pin standing numbers Semicolon = misplaced_one (is_known standing.pin) false
-first_one one places.Port standing numbers Semicolon = misplaced_one (is_known standing.pin) false
-first_one one places.Layered standing numbers Semicolon = misplaced_one (is_known standing.pin) false
+first_one one places.Pin standing numbers first = stray_one (is_known standing.pin) first
+first_one one places.Port standing numbers first = stray_one (is_known standing.pin) first
+first_one one places.Layered standing numbers first = stray_one (is_known standing.pin) first
 first_one one places.Unfit standing numbers first = unfit_one one (is_supply first) (the Use standing.last) numbers
 first_one one section standing numbers first = none_one
 

@@ -25,14 +25,13 @@ there shows units held h section is kind found =
     (subst (λ (z : Section). Finds (shows z held.standing) kind) is found)
 
 pub first_shows : (units : List (List Token)) (held : Held) → Holds units held → (section : Section) → section ≡ section_in held.standing →
-    (first : Token) (told : Sort) → told ≡ sort_of first → (kind : Option Shown) →
-    Finds (FirstFault section held.standing (heard_of units).said.numbers told) kind → Shows format units (first ∷ []) (found_at 0 kind)
-first_shows units held h section is first told same kind found =
+    (first : Token) (kind : Option Shown) → Finds (FirstFault section held.standing (heard_of units).said.numbers (sort_of first)) kind →
+    Shows format units (first ∷ []) (found_at 0 kind)
+first_shows units held h section is first kind found =
     let heard = heard_of units in
     let shows : Section → Standing → Shown → Type 0 = λ s t. FirstFault s t heard.said.numbers (sort_of first) in
     show-at format units (first ∷ []) 0 (shows (section_in heard.standing) heard.standing) (λ a k. k) (λ kind k. (refl, k)) kind
-    (there shows units held h section is kind
-    (subst (λ (z : Sort). Finds (FirstFault section held.standing heard.said.numbers z) kind) same found))
+    (there shows units held h section is kind found)
 
 pub second_shows : (units : List (List Token)) (held : Held) → Holds units held → (section : Section) → section ≡ section_in held.standing →
     (first second : Token) (told : Sort) → told ≡ sort_of first → (kind : Option Shown) →

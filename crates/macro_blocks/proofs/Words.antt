@@ -1,12 +1,14 @@
 -- Units by the number of their words.
-use Rattle.std.proofs.Common.{◌≡◌, false, ◌<◌, ◌≤◌, List, [], ◌∷◌, Option, length, get_or, refl, ap, arith}
+use Rattle.std.proofs.Common.{◌≡◌, false, sym, ◌∙◌, ◌<◌, ◌≤◌, List, [], ◌∷◌, Option, length, get_or, refl, ap, arith}
 use Rattle.macro_blocks.specs.declared.section.Section.{Section}
 use Rattle.macro_blocks.specs.declared.standing.OpenPin.{OpenPin}
 use Rattle.macro_blocks.specs.declared.standing.Standing.{Standing}
 use Rattle.macro_blocks.specs.Record.{act_of, act_of_more}
-use Rattle.macro_blocks.specs.Standing.{after_more, after_words, is_rect}
+use Rattle.macro_blocks.specs.declared.section.Section.TheVariants as places
+use Rattle.macro_blocks.specs.declared.sort.Sort.{Sort}
+use Rattle.macro_blocks.specs.Standing.{after_more, after_words, is_rect, last_in, section_in, with_last}
 use Rattle.reading.specs.declared.word.Word.{Word}
-use Rattle.reading.specs.Word.{Token}
+use Rattle.reading.specs.Word.{Token, last_of}
 use Rattle.reading.specs.declared.word.Form.TheVariants.{Bare}
 
 abbrev pub no_word : Word
@@ -78,3 +80,18 @@ long_leads section [] standing h = absurd (omega arith)
 long_leads section (a ∷ []) standing h = absurd (omega arith)
 long_leads section (a ∷ b ∷ []) standing h = absurd (omega arith)
 long_leads section (a ∷ b ∷ c ∷ unit) standing h = refl
+
+-- The last word is kept where a word could not stand, and nowhere else.
+other_last : (section : Section) → (section ≡ places.Unfit → ⊥) → (word : Option Token) (last : Sort) → last ≡ last_in section word last
+other_last places.Unfit other word last = absurd (other refl)
+other_last section other word last = refl
+
+pub last_kept : (unit : List Token) (standing new : Standing) (section : Section) → section ≡ section_in standing → section ≡ places.Unfit →
+    new ≡ (record standing { last = last_in places.Unfit (last_of unit) standing.last }) → new ≡ with_last unit standing
+last_kept unit standing new section is unfit keeps =
+    keeps ∙ ap (λ (z : Section). record standing { last = last_in z (last_of unit) standing.last }) (sym unfit ∙ is)
+
+pub last_stays : (unit : List Token) (standing : Standing) (section : Section) → section ≡ section_in standing → (section ≡ places.Unfit → ⊥) →
+    standing ≡ with_last unit standing
+last_stays unit standing section is other =
+    ap (λ (z : Sort). record standing { last = z }) (other_last (section_in standing) (λ e. other (is ∙ e)) (last_of unit) standing.last)

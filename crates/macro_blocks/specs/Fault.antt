@@ -94,12 +94,17 @@ is_supply sorts.Power = true
 is_supply sorts.Ground = true
 is_supply _ = false
 
+-- A `;` cannot stand where a statement begins.
+abbrev pub StrayFault : Bool → Sort → Shown → Type 0
+StrayFault known sorts.Semicolon kind = Misplaced known false kind
+StrayFault known _ kind = ⊥
+
 -- Why a first word is refused in this section: a `;` in a pin, a port or obstructions, and POWER or GROUND after USE where a
 -- word before could not stand.
 abbrev pub FirstFault : Section → Standing → List Token → Sort → Shown → Type 0
-FirstFault Pin standing numbers sorts.Semicolon = Misplaced (is_known standing.pin) false
-FirstFault Port standing numbers sorts.Semicolon = Misplaced (is_known standing.pin) false
-FirstFault Layered standing numbers sorts.Semicolon = Misplaced (is_known standing.pin) false
+FirstFault Pin standing numbers first = StrayFault (is_known standing.pin) first
+FirstFault Port standing numbers first = StrayFault (is_known standing.pin) first
+FirstFault Layered standing numbers first = StrayFault (is_known standing.pin) first
 FirstFault Unfit standing numbers first = UnfitFault (is_supply first) (the sorts.Use standing.last) numbers
 FirstFault section standing numbers first = λ kind. ⊥
 

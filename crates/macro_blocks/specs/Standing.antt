@@ -192,15 +192,17 @@ section_with section (Some passing) = Passed
 abbrev pub section_in : Standing → Section
 section_in standing = section_with standing.section standing.passing
 
--- The sort of a last word.
-abbrev pub sort_with : Option Token → Sort → Sort
-sort_with None last = last
-sort_with (Some word) last = sort_of word
+-- The sort of the last word, which is kept where a word could not stand.
+abbrev pub last_in : Section → Option Token → Sort → Sort
+last_in Unfit (Some word) last = sort_of word
+last_in section word last = last
+
+abbrev pub with_last : List Token → Standing → Standing
+with_last unit standing = record standing { last = last_in (section_in standing) (last_of unit) standing.last }
 
 -- Where one more unit leads.
 abbrev pub standing_after : Standing → List Token → Standing
-standing_after standing unit =
-    let there = after_words (section_in standing) unit standing in record there { last = sort_with (last_of unit) standing.last }
+standing_after standing unit = with_last unit (after_words (section_in standing) unit standing)
 
 -- Where a text begins.
 abbrev pub at_start : Standing

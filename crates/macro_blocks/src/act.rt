@@ -1,5 +1,5 @@
 //! What a unit does to what is said.
-ghost use Rattle.std.specs.Prelude.{◌≡◌, map};
+ghost use Rattle.std.specs.Prelude.{◌≡◌, None, map};
 ghost use Rattle.macro_blocks.specs.Record.{ends_pin, act_of_pin, ends_port, act_of_one, act_of_two, act_of_more, act_of};
 ghost use Rattle.macro_blocks.specs.Standing.{is_own};
 ghost use Rattle.macro_blocks.specs.Sort.{sort_of};
@@ -58,13 +58,33 @@ fn ends_port(pin: &Option<OpenPin<'_>>) -> Act
     }
 }
 
-/// What a unit of one word does.
-fn act_of_one(section: Section, first: Sort, pin: &Option<OpenPin<'_>>) -> Act
-    ensures { result ≡ act_of_one section first pin.now }
+/// What a word does between the statements of a macro.
+fn act_of_macro(word: &Word<'_>) -> Act
+    ensures { result ≡ act_of_one Section.Macro (sort_of (token word.now)) None }
 {
-    match (section, first) {
-        (Section::Macro, Sort::Obs) => Act::Opens,
-        (Section::Port | Section::Layered, Sort::End) => ends_port(pin),
+    match sort_of(word) {
+        Sort::Obs => Act::Opens,
+        _ => Act::Nothing,
+    }
+}
+
+/// What a word does between the statements of a port or of obstructions.
+fn act_of_port(word: &Word<'_>, pin: &Option<OpenPin<'_>>) -> Act
+    ensures { result ≡ act_of_one Section.Port (sort_of (token word.now)) pin.now }
+{
+    match sort_of(word) {
+        Sort::End => ends_port(pin),
+        _ => Act::Nothing,
+    }
+}
+
+/// What a unit of one word does.
+fn act_of_one(section: Section, word: &Word<'_>, pin: &Option<OpenPin<'_>>) -> Act
+    ensures { result ≡ act_of_one section (sort_of (token word.now)) pin.now }
+{
+    match section {
+        Section::Macro => act_of_macro(word),
+        Section::Port | Section::Layered => act_of_port(word, pin),
         _ => Act::Nothing,
     }
 }
@@ -99,7 +119,7 @@ pub(crate) fn act_of(section: Section, pin: &Option<OpenPin<'_>>, unit: &[Word<'
 {
     match unit {
         [] => Act::Nothing,
-        [word] => act_of_one(section, sort_of(word), pin),
+        [word] => act_of_one(section, word, pin),
         [first, second] => act_of_two(section, sort_of(first), second, pin),
         _ => act_of_more(section),
     }

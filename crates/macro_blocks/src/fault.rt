@@ -1,7 +1,8 @@
 //! The faults that the words of a unit show.
 ghost use Rattle.std.specs.Prelude.{◌≡◌, List, true};
-ghost use Rattle.macro_blocks.specs.Fault.{Misplaced, Unless, NoCoordinate, OriginFault, CornerFault, EarlierFault, UseFault, UnfitFault, is_supply, FirstFault, SecondFault, ThirdFault, LaterFault, StopFault};
-ghost use Rattle.macro_blocks.specs.Sort.{the};
+ghost use Rattle.macro_blocks.specs.Fault.{Misplaced, Unless, NoCoordinate, OriginFault, CornerFault, EarlierFault, UseFault, UnfitFault, is_supply, StrayFault, FirstFault, SecondFault, ThirdFault, LaterFault, StopFault};
+ghost use Rattle.macro_blocks.specs.Sort.{the, sort_of};
+ghost use Rattle.macro_blocks.specs.Standing.{is_known};
 ghost use Rattle.macro_blocks.specs.inside.Held.{IsBad};
 ghost use Rattle.reading.specs.Fault.{Finds};
 ghost use Rattle.reading.specs.Word.{Token, token};
@@ -127,21 +128,29 @@ fn unfit_fault(supply: bool, after_use: bool, bad: Option<Bad>) -> Option<Shown>
     }
 }
 
+/// Why the first word of a unit is refused in a pin, a port or obstructions.
+fn stray_fault(standing: &Standing<'_>, first: &Word<'_>) -> Option<Shown>
+    ensures { Finds (StrayFault (is_known standing.now.pin) (sort_of (token first.now))) result }
+{
+    match sort_of(first) {
+        Sort::Semicolon => misplaced(is_known(&standing.pin), false),
+        _ => None,
+    }
+}
+
 /// Why the first word of a unit is refused.
 pub(crate) fn first_fault(
     section: Section,
     standing: &Standing<'_>,
     bad: Option<Bad>,
-    first: Sort,
+    first: &Word<'_>,
 ) -> Option<Shown>
     ensures { (numbers : List Token) → IsBad numbers bad →
-        Finds (FirstFault section standing.now numbers first) result }
+        Finds (FirstFault section standing.now numbers (sort_of (token first.now))) result }
 {
-    match (section, first) {
-        (Section::Pin | Section::Port | Section::Layered, Sort::Semicolon) => {
-            misplaced(is_known(&standing.pin), false)
-        }
-        (Section::Unfit, _) => unfit_fault(is_supply(first), is_use(standing.last), bad),
+    match section {
+        Section::Pin | Section::Port | Section::Layered => stray_fault(standing, first),
+        Section::Unfit => unfit_fault(is_supply(sort_of(first)), is_use(standing.last), bad),
         _ => None,
     }
 }

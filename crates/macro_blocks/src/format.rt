@@ -52,7 +52,7 @@ impl<'a> Grammar<'a> for BlocksFormat {
         let bad = said.said.bad;
         match unit {
             [] => None,
-            [first] => found_at(0, first_fault(section, standing, bad, sort_of(first))),
+            [first] => found_at(0, first_fault(section, standing, bad, first)),
             [first, second] => {
                 found_at(
                     1,

@@ -2,9 +2,9 @@
 ghost use Rattle.std.specs.Prelude.{◌≡◌, map};
 ghost use Rattle.macro_blocks.specs.Rule.{is_name};
 ghost use Rattle.macro_blocks.specs.Sort.{the, sort_of};
-ghost use Rattle.macro_blocks.specs.Standing.{pin_name, is_told, is_known, is_own, used, passed_by, in_macro, after_top, after_macro_word, after_macro, after_pin_word, unused, after_other_use, after_use, after_pin, around, after_port_word, after_port, is_rect, after_unfit, after_passed, after_one, after_two, after_more, after_words, section_in, standing_after, at_start};
+ghost use Rattle.macro_blocks.specs.Standing.{pin_name, is_told, is_known, is_own, used, passed_by, in_macro, after_top, after_macro_word, after_macro, after_pin_word, unused, after_other_use, after_use, after_pin, around, after_port_word, after_port, is_rect, after_unfit, after_passed, after_one, after_two, after_more, after_words, section_in, last_in, standing_after, at_start};
 ghost use Rattle.lef_statements.specs.Passing.{section_after};
-ghost use Rattle.reading.specs.Word.{token};
+ghost use Rattle.reading.specs.Word.{token, last_of};
 
 use crate::label::Label;
 use crate::section::Section;
@@ -408,13 +408,22 @@ impl<'a> Standing<'a> {
         }
     }
 
+    /// Keeps the sort of the last word.
+    fn keep_last(&mut self, unit: &[Word<'a>])
+        ensures { self.new ≡ record self.old { last = last_in Section.Unfit (last_of (map token unit.now)) self.old.last } }
+    {
+        if let Some(word) = last_word(unit) {
+            self.last = sort_of(word);
+        }
+    }
+
     /// Goes on to where one more unit leads.
     pub(crate) fn go_on(&mut self, unit: &[Word<'a>])
         ensures { self.new ≡ standing_after self.old (map token unit.now) }
     {
         self.after_words(self.section(), unit);
-        if let Some(word) = last_word(unit) {
-            self.last = sort_of(word);
+        if let Section::Unfit = self.section() {
+            self.keep_last(unit);
         }
     }
 }

@@ -13,14 +13,14 @@ returns-in-len1 c = λ units h.
     let xs = c.args.unit.now in
     subst (λ z. Shows format units (map token z) c.found_at.result) (sym (one_word xs c.in-len1.len_at_least c.in-len1.len_below))
     (subst (λ z. Shows format units (token (get_or xs 0 no_word) ∷ []) z) (sym c.found_at.ensures)
-    (first_shows units c.args.said.now h c.section-section.result c.section-section.ensures (token (get_or xs 0 no_word)) c.sort_of.result c.sort_of.ensures c.first_fault.result (c.first_fault.ensures (heard_of units).said.numbers h.said.numbers)))
+    (first_shows units c.args.said.now h c.section-section.result c.section-section.ensures (token (get_or xs 0 no_word)) c.first_fault.result (c.first_fault.ensures (heard_of units).said.numbers h.said.numbers)))
 
 pub returns-in-len2 : goal.returns-in-len2
 returns-in-len2 c = λ units h.
     let xs = c.args.unit.now in
     subst (λ z. Shows format units (map token z) c.found_at-in-len2.result) (sym (two_words xs c.in-len2.len_at_least c.in-len2.len_below))
     (subst (λ z. Shows format units (token (get_or xs 0 no_word) ∷ token (get_or xs 1 no_word) ∷ []) z) (sym c.found_at-in-len2.ensures)
-    (second_shows units c.args.said.now h c.section-section.result c.section-section.ensures (token (get_or xs 0 no_word)) (token (get_or xs 1 no_word)) c.sort_of-in-len2.result c.sort_of-in-len2.ensures c.second_fault.result (c.second_fault.ensures (heard_of units).said.numbers h.said.numbers)))
+    (second_shows units c.args.said.now h c.section-section.result c.section-section.ensures (token (get_or xs 0 no_word)) (token (get_or xs 1 no_word)) c.sort_of.result c.sort_of.ensures c.second_fault.result (c.second_fault.ensures (heard_of units).said.numbers h.said.numbers)))
 
 pub returns-in-len3 : goal.returns-in-len3
 returns-in-len3 c = λ units h.

@@ -1,2 +1,4 @@
-pub mod Least
-pub mod Tested
+mod Added
+mod Least
+mod Sited
+mod Tested

@@ -1,10 +1,19 @@
-//! The first touch of metal by a plain, slow program, pair by pair, as its definition has it. Tests compare the drawing with it.
+//! Crossings and touches by plain, slow programs, pair by pair, as their definitions have them. Tests compare the drawing
+//! with them.
 #![tactic(auto)]
 
+mod adding;
+mod crossing;
+mod layers;
 mod metal;
 mod order;
+mod same;
+#[cfg(test)]
+mod site_tests;
+mod sites;
 #[cfg(test)]
 mod tests;
 mod touches;
 
+pub use sites::sites_by_pairs;
 pub use touches::first_touch_by_pairs;

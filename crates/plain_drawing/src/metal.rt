@@ -41,7 +41,7 @@ fn of_piece(piece: &Piece) -> Metal
 }
 
 // The metal of a piece.
-fn rect_of(piece: &Piece) -> Rect
+pub(crate) fn rect_of(piece: &Piece) -> Rect
     requires { PieceKeeps piece.now }
     ensures { result ≡ piece_rect piece.now }
 {

@@ -12,14 +12,14 @@ use std::test::Fail;
 use via_arrays::Stack;
 
 // The next state of a generator of numbers.
-fn next(state: u64) -> u64 {
+pub(crate) fn next(state: u64) -> u64 {
     state
         .wrapping_mul(6_364_136_223_846_793_005)
         .wrapping_add(1_442_695_040_888_963_407)
 }
 
 // Whether the piece keeps what is asked of pieces, with its coordinates within 2^60 of 0.
-fn keeps(piece: &Piece) -> bool
+pub(crate) fn keeps(piece: &Piece) -> bool
     ensures { IsTrue result → PieceKeeps piece.now }
 {
     let far = 1 << 60;

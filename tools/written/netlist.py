@@ -1,4 +1,4 @@
-"""Netlists of resistors, sources and loads, as far as another tool's view of them needs it."""
+"""Netlists of resistors, sources, loads and capacitors, as far as another tool's view of them needs it."""
 import re
 from decimal import Decimal
 from typing import NamedTuple
@@ -50,8 +50,13 @@ def is_card(words):
     return words[0][0].lower() in "riv" and (len(words) == 4 or (len(words) == 5 and words[3].lower() == "dc"))
 
 
+def is_capacitor(words):
+    """Whether a line has the form of a capacitor's card."""
+    return words[0][0].lower() == "c" and len(words) == 4 and number(words[3]) is not None
+
+
 def read_cards(path):
-    """The cards of a netlist that pdn accepts."""
+    """The cards of a netlist that pdn accepts, but for its capacitors, which draw nothing at rest."""
     cards, ended = [], False
     for place, words in joined_lines(read_text(path)):
         if words[0].lower() == ".end":
@@ -61,8 +66,8 @@ def read_cards(path):
         if value is not None:
             start, end = (word.translate(_LOWER) for word in words[1:3])
             cards.append(Card(words[0][0].lower(), start, end, value, place))
-        elif place > 1 and not words[0].startswith("."):
-            raise Refused(path, place, "this is no card of a resistor, a source or a load")
+        elif place > 1 and not words[0].startswith(".") and not is_capacitor(words):
+            raise Refused(path, place, "this is no card of a resistor, a source, a load or a capacitor")
     if not ended:
         raise Refused(path, None, "the netlist is cut off: it has no line '.end'")
     return cards

@@ -9,9 +9,9 @@ use Rattle.grid_net.specs.declared.error.Quantity.{Quantity}
 use Rattle.grid_net.specs.declared.error.Quantity.TheVariants.{Nodes, Resistors, Resistance, Voltage, Loads}
 use Rattle.answers.specs.declared.built.Built.{Built as Numbers}
 use Rattle.answers.specs.declared.kind.TextKind.{TextKind}
-use Rattle.answers.specs.declared.kind.TextKind.TheVariants.{Syntax, OutOfProfileCard, FloatingSource, Number, OutOfRange, WrongNode, BadString, Substitution, Twice, UnknownLayer, BadTable, Polygon, RowForm, AlreadyRouted, MissingDesign, MissingUnits, MissingDieArea, AfterPdngen, UnknownCommand, OutOfProfile, UnknownOption, UnknownGrid, UnknownDomain, MissingOption, NetUse, Falling}
+use Rattle.answers.specs.declared.kind.TextKind.TheVariants.{Syntax, OutOfProfileCard, FloatingSource, Number, OutOfRange, WrongNode, BadString, Substitution, Twice, UnknownLayer, BadTable, Polygon, RowForm, AlreadyRouted, MissingDesign, MissingUnits, MissingDieArea, AfterPdngen, UnknownCommand, OutOfProfile, UnknownOption, UnknownGrid, UnknownDomain, MissingOption, NetUse, Falling, UnknownNode}
 use Rattle.answers.specs.declared.answer.Answer.{Answer}
-use Rattle.answers.specs.declared.answer.Answer.TheVariants.{Usage, Want, ReadFault, WriteFault, TooLong, Refused, NoGrid, Range, PadConflict, Unsupplied, Built, Generated, Solved, Certified, NotCertified}
+use Rattle.answers.specs.declared.answer.Answer.TheVariants.{Usage, Want, ReadFault, WriteFault, TooLong, Refused, NoGrid, Range, TooManySteps, PadConflict, FloatingCapacitor, Unsupplied, Built, Generated, Solved, Stepped, Certified, NotCertified}
 
 -- The word for the test of a certificate that fails.
 abbrev pub side_word : Side → List ℕ
@@ -60,6 +60,7 @@ kind_words UnknownDomain = codes "UnknownDomain"
 kind_words MissingOption = codes "MissingOption"
 kind_words NetUse = codes "NetUse"
 kind_words Falling = codes "Falling"
+kind_words UnknownNode = codes "UnknownNode"
 
 -- A count and the words after it.
 abbrev pub counted : ℕ → List ℕ → List ℕ
@@ -91,11 +92,14 @@ status_of (TooLong file) = 4
 status_of (Refused file place kind) = 4
 status_of (NoGrid words) = 5
 status_of (Range quantity at number) = 6
+status_of (TooManySteps number) = 6
 status_of (PadConflict node first second) = 6
+status_of (FloatingCapacitor node) = 6
 status_of (Unsupplied node) = 7
 status_of (Built built) = built_status built
 status_of Generated = 0
 status_of (Solved nodes resistors sweeps) = 0
+status_of (Stepped nodes steps) = 0
 status_of (Certified nodes) = 0
 status_of (NotCertified node side found) = 9
 
@@ -112,14 +116,17 @@ words_of (Refused file place kind) =
 words_of (NoGrid words) = codes "pdn: " ++ words
 words_of (Range quantity at number) =
     codes "pdn: Range " ++ quantity_word quantity ++ codes " " ++ decimal at ++ codes " " ++ signed_decimal number
+words_of (TooManySteps number) = codes "pdn: Range Steps 0 " ++ decimal number
 words_of (PadConflict node first second) =
     codes "pdn: PadConflict " ++ node ++ codes " " ++ printed first 24 ++ codes " " ++ printed second 24
+words_of (FloatingCapacitor node) = codes "pdn: FloatingCapacitor " ++ node
 words_of (Unsupplied node) = codes "pdn: Unsupplied " ++ node
 words_of (Built built) = codes "built " ++ grid_words built ++ verdict_words built
 words_of Generated = codes "generated"
 words_of (Solved nodes resistors sweeps) =
     codes "solved " ++ decimal nodes ++ codes " nodes " ++ decimal resistors ++ codes " resistors " ++ decimal sweeps
     ++ codes " sweeps"
+words_of (Stepped nodes steps) = codes "stepped " ++ decimal nodes ++ codes " nodes " ++ decimal steps ++ codes " steps"
 words_of (Certified nodes) = codes "certified " ++ decimal nodes ++ codes " nodes"
 words_of (NotCertified node side found) =
     codes "pdn: NotCertified " ++ node ++ codes " " ++ side_word side ++ codes " " ++ signed_decimal found

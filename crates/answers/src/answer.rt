@@ -6,7 +6,7 @@ use crate::built::Built;
 use crate::kind::TextKind;
 use crate::line::{
     built_line, certified_line, conflict_line, file_line, not_certified_line, range_line,
-    refused_line, solved_line,
+    refused_line, solved_line, stepped_line, steps_line,
 };
 use bound_check::Side;
 use entry_list::Entries;
@@ -42,12 +42,16 @@ pub enum Answer {
         at: u64,
         number: i128,
     },
+    /// So many steps times nodes, more than there may be.
+    TooManySteps(u64),
     /// Two pads of one node or group differ: its name, its first pad and the one that differs. In yoctovolts.
     PadConflict {
         node: Name,
         first: i128,
         second: i128,
     },
+    /// A capacitor joins two nodes of which none is a pad: the earlier of the two nodes of the first such capacitor.
+    FloatingCapacitor(Name),
     /// No chain of resistors joins the node of this name to a pad: the first such node.
     Unsupplied(Name),
     /// The grid is drawn, certified and written, with these numbers.
@@ -59,6 +63,11 @@ pub enum Answer {
         nodes: u32,
         resistors: u32,
         sweeps: u64,
+    },
+    /// The network, of this many nodes, was bounded at so many steps after step 0.
+    Stepped {
+        nodes: u32,
+        steps: u32,
     },
     /// The test of the certificate holds, on a network of this many nodes.
     Certified(u32),
@@ -73,13 +82,15 @@ impl Answer {
         ensures { result ≡ status_of self.now }
     {
         match self {
-            Answer::Certified(_) | Answer::Solved { .. } | Answer::Generated => 0,
+            Answer::Certified(_) | Answer::Generated => 0,
+            Answer::Solved { .. } | Answer::Stepped { .. } => 0,
             Answer::Built(built) => built.status(),
             Answer::Usage => 2,
             Answer::ReadFault(_) | Answer::WriteFault(_) => 3,
             Answer::TooLong(_) | Answer::Refused { .. } => 4,
             Answer::NoGrid(_) => 5,
-            Answer::Range { .. } | Answer::PadConflict { .. } => 6,
+            Answer::Range { .. } | Answer::TooManySteps(_) => 6,
+            Answer::PadConflict { .. } | Answer::FloatingCapacitor(_) => 6,
             Answer::Unsupplied(_) => 7,
             Answer::NotCertified(..) => 9,
             Answer::Want => 10,
@@ -105,11 +116,15 @@ impl Answer {
                 at,
                 number,
             } => range_line(alloc, *quantity, *at, *number),
+            Answer::TooManySteps(number) => steps_line(alloc, *number),
             Answer::PadConflict {
                 node,
                 first,
                 second,
             } => conflict_line(alloc, node.bytes(), *first, *second),
+            Answer::FloatingCapacitor(node) => {
+                file_line(alloc, b"pdn: FloatingCapacitor ", node.bytes(), b"\n")
+            }
             Answer::Unsupplied(node) => file_line(alloc, b"pdn: Unsupplied ", node.bytes(), b"\n"),
             Answer::Built(built) => built_line(alloc, *built),
             Answer::Generated => Vec::from_slice(alloc, b"generated\n"),
@@ -118,6 +133,7 @@ impl Answer {
                 resistors,
                 sweeps,
             } => solved_line(alloc, *nodes, *resistors, *sweeps),
+            Answer::Stepped { nodes, steps } => stepped_line(alloc, *nodes, *steps),
             Answer::Certified(nodes) => certified_line(alloc, *nodes),
             Answer::NotCertified(node, side, found) => {
                 not_certified_line(alloc, node.bytes(), *side, *found)

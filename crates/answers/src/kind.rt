@@ -58,8 +58,11 @@ pub enum TextKind {
     MissingOption,
     /// A script names the net as power and as ground.
     NetUse,
-    /// A bias file's word is the second number of a range, and its value is below that of the first.
+    /// A word is the second number of a range, and its value is below that of the first; or it is the step of a wave, below
+    /// that of the line before.
     Falling,
+    /// No group of a netlist's nodes has the name of a wave's line.
+    UnknownNode,
 }
 
 impl TextKind {
@@ -96,6 +99,7 @@ impl TextKind {
             TextKind::MissingOption => b"MissingOption",
             TextKind::NetUse => b"NetUse",
             TextKind::Falling => b"Falling",
+            TextKind::UnknownNode => b"UnknownNode",
         }
     }
 }

@@ -87,6 +87,33 @@ pub(crate) fn range_line(
     Ok(line)
 }
 
+/// The line of too many steps: their number times that of the nodes.
+pub(crate) fn steps_line(alloc: Global, number: u64) -> Result<Vec<u8>, AllocError>
+    ensures { IfOk result (λ line. line.items ≡ codes "pdn: Range Steps 0 " ++ decimal number ++ codes "\n") }
+{
+    let mut buffer = Buffer::new();
+    file_line(
+        alloc,
+        b"pdn: Range Steps 0 ",
+        buffer.format(number).as_bytes(),
+        b"\n",
+    )
+}
+
+/// The line of a network that was bounded at so many steps.
+pub(crate) fn stepped_line(alloc: Global, nodes: u32, steps: u32) -> Result<Vec<u8>, AllocError>
+    ensures { IfOk result (λ line. line.items ≡
+        codes "stepped " ++ decimal nodes ++ codes " nodes " ++ decimal steps ++ codes " steps\n") }
+{
+    let mut buffer = Buffer::new();
+    let mut line = Vec::from_slice(alloc, b"stepped ")?;
+    line.extend_from_slice(buffer.format(nodes).as_bytes())?;
+    line.extend_from_slice(b" nodes ")?;
+    line.extend_from_slice(buffer.format(steps).as_bytes())?;
+    line.extend_from_slice(b" steps\n")?;
+    Ok(line)
+}
+
 /// The line of two pads that differ: volts with 24 places, which are whole yoctovolts.
 pub(crate) fn conflict_line(
     alloc: Global,

@@ -23,6 +23,3 @@ pub use laws::texts_have_one_bias;
 pub use number::{AMPERES_LIMIT, PLACE_LIMIT, VOLTS_LIMIT};
 pub use read::read_bias;
 pub use record::{Amps, Bias, DropLimit, PadAt, Supply};
-
-#[cfg(test)]
-mod tests;

@@ -10,6 +10,7 @@ use Rattle.grid_net.specs.Certificate.{HighHolds, LowHolds}
 use Rattle.grid_net.specs.Mirror.{turned, mirror}
 use Rattle.grid_net.specs.Laws.Mirror.{mirror_network, no_pad_in, no_pad_out, pad_in, pad_out, load_in, high_in, outflow_turned}
 use Rattle.bound_check.specs.Certified.{least_current, greatest_current}
+use Rattle.bound_check.specs.OneSided.{MeetsLaws, PadsAtMost, PadsAtLeast}
 use Rattle.rounding.specs.Laws.{times_le, times_le_out, times_swap, times_difference, times_sum, times_neg, floor_is, greatest_of}
 use Rattle.grid_net.specs.Laws.Sums.{taken_le, taken_times}
 
@@ -45,26 +46,42 @@ module _ (n : ℕ) (q : ℕ) (p x : ℕ → ℤ) (i : ℕ) where
       let t = taken_times r i (pos q) F G in
       omega (arith, ints, here, rest, s, t)
 
-module _ (net : Network) (q : ℕ) (p c drawn x : ℕ → ℤ) (wf : IsNetwork net) (sol : IsSolution net q p c drawn) where
+module _ (net : Network) (q : ℕ) (p c drawn x : ℕ → ℤ) (wf : IsNetwork net) (laws : MeetsLaws net q p c drawn) (pads : PadsAtMost net q p) where
   top_is_low : HighHolds net x → (i : ℕ) → i < net.nodes → ((j : ℕ) → j < net.nodes → (p j -ℤ pos q *ℤ x j) ≤ℤ (p i -ℤ pos q *ℤ x i)) → (o : Option ℤ) → pad_at net i ≡ o → p i ≤ℤ (pos q *ℤ x i)
   unfolding Ohm
   top_is_low high i l top None no_pad =
       let S = outflow floor_div net.resistors x i in
-      let flows = floors_below net.nodes q p x i net.resistors c wf.each_resistor sol.ohm top in
-      let law = sol.kirchhoff i l no_pad in
+      let flows = floors_below net.nodes q p x i net.resistors c wf.each_resistor laws.ohm top in
+      let law = laws.kirchhoff i l no_pad in
       let test = times_le (pos q) (pos 1) (S +ℤ low_load net i) (omega (arith, ints)) (high.sums i l no_pad) in
       let split = times_sum (pos q) S (low_load net i) in
-      absurd (omega (arith, ints, flows, law, sol.drawn i l, test, split, sol.denominator))
+      absurd (omega (arith, ints, flows, law, laws.drawn i l, test, split, laws.denominator))
   top_is_low high i l top (Some v) pad =
-      let at_pad = sol.pads i v l pad in
+      let at_pad = pads i v l pad in
       let test = times_le (pos q) v (x i) (omega (arith, ints)) (high.pads i v l pad) in
       omega (arith, ints, at_pad, test)
 
-  pub solution_at_most_high : HighHolds net x → (j : ℕ) → j < net.nodes → p j ≤ℤ (pos q *ℤ x j)
-  solution_at_most_high high j l =
+  -- Where no pad is above its voltage, no node is above the list.
+  pub laws_at_most_high : HighHolds net x → (j : ℕ) → j < net.nodes → p j ≤ℤ (pos q *ℤ x j)
+  laws_at_most_high high j l =
       let g = greatest_of (λ k. p k -ℤ pos q *ℤ x k) net.nodes (omega arith) in
       let t = top_is_low high g.0 g.1 g.2 (pad_at net g.0) refl in
       omega (arith, ints, t, g.2 j l)
+
+-- A solution meets the laws, and its pads have their voltages.
+laws_of_solution : (net : Network) (q : ℕ) (p c drawn : ℕ → ℤ) → IsSolution net q p c drawn → MeetsLaws net q p c drawn
+laws_of_solution net q p c drawn sol = record {
+  denominator = sol.denominator;
+  ohm = sol.ohm;
+  drawn = sol.drawn;
+  kirchhoff = sol.kirchhoff;
+}
+
+module _ (net : Network) (q : ℕ) (p c drawn x : ℕ → ℤ) (wf : IsNetwork net) (sol : IsSolution net q p c drawn) where
+  pub solution_at_most_high : HighHolds net x → (j : ℕ) → j < net.nodes → p j ≤ℤ (pos q *ℤ x j)
+  solution_at_most_high high j l =
+      laws_at_most_high net q p c drawn x wf (laws_of_solution net q p c drawn sol)
+      (λ i v l' e. omega (arith, ints, sol.pads i v l' e)) high j l
 
 -- ---- the low side, as the high side of the mirrored network
 -- Currents that are turned in sign leave a node as much less as they arrived.
@@ -78,20 +95,23 @@ currents_turned (r ∷ rs) c i = omega (arith, ints, ends (eqb r.a i) (eqb r.b i
     ends false true u = omega (arith, ints)
     ends false false u = omega (arith, ints)
 
--- A solution with each number turned in sign is one of the mirrored network.
-solution_turned : (net : Network) (q : ℕ) (p c drawn : ℕ → ℤ) → IsSolution net q p c drawn → IsSolution (mirror net) q (turned p) (turned c) (turned drawn)
-solution_turned net q p c drawn sol = record {
-  denominator = sol.denominator;
-  ohm = λ k d l. (let r = get_or net.resistors k d in omega (arith, ints, sol.ohm k d l, times_neg r.ohms (c k)));
+-- Laws that are met with each number turned in sign are met in the mirrored network.
+laws_turned : (net : Network) (q : ℕ) (p c drawn : ℕ → ℤ) → MeetsLaws net q p c drawn → MeetsLaws (mirror net) q (turned p) (turned c) (turned drawn)
+laws_turned net q p c drawn laws = record {
+  denominator = laws.denominator;
+  ohm = λ k d l. (let r = get_or net.resistors k d in omega (arith, ints, laws.ohm k d l, times_neg r.ohms (c k)));
   drawn = λ i l.
       (let e = times_neg (pos q) (low_load net i) in
       let f = times_neg (pos q) (high_load net i) in
       let a = ap (λ z. pos q *ℤ z) (load_in net i) in
       let b = ap (λ z. pos q *ℤ z) (high_in net i) in
-      (omega (arith, ints, sol.drawn i l, a, f), omega (arith, ints, sol.drawn i l, b, e)));
-  kirchhoff = λ i l e. (let k = sol.kirchhoff i l (no_pad_out net i e) in omega (arith, ints, k, currents_turned net.resistors c i));
-  pads = λ i v l e. (let k = sol.pads i (neg_ℤ v) l (pad_out net i v e) in omega (arith, ints, k, times_neg (pos q) v));
+      (omega (arith, ints, laws.drawn i l, a, f), omega (arith, ints, laws.drawn i l, b, e)));
+  kirchhoff = λ i l e. (let k = laws.kirchhoff i l (no_pad_out net i e) in omega (arith, ints, k, currents_turned net.resistors c i));
 }
+
+pads_turned : (net : Network) (q : ℕ) (p : ℕ → ℤ) → PadsAtLeast net q p → PadsAtMost (mirror net) q (turned p)
+pads_turned net q p pads i v l e =
+    let k = pads i (neg_ℤ v) l (pad_out net i v e) in omega (arith, ints, k, times_neg (pos q) v)
 
 -- The low half of the sums is the high half of the mirrored network.
 high_of_low : (net : Network) (low : ℕ → ℤ) → LowHolds net low → HighHolds (mirror net) (turned low)
@@ -103,10 +123,16 @@ high_of_low net low holds = record {
       omega (arith, ints, k, t, load_in net i));
 }
 
+-- Where no pad is below its voltage, no node is below the list.
+pub laws_at_least_low : (net : Network) (q : ℕ) (p c drawn x : ℕ → ℤ) → IsNetwork net → MeetsLaws net q p c drawn → PadsAtLeast net q p → LowHolds net x → (j : ℕ) → j < net.nodes → (pos q *ℤ x j) ≤ℤ p j
+laws_at_least_low net q p c drawn x wf laws pads low j l =
+    let t = laws_at_most_high (mirror net) q (turned p) (turned c) (turned drawn) (turned x) (mirror_network net wf) (laws_turned net q p c drawn laws) (pads_turned net q p pads) (high_of_low net x low) j l in
+    omega (arith, ints, t, times_neg (pos q) (x j))
+
 pub solution_at_least_low : (net : Network) (q : ℕ) (p c drawn x : ℕ → ℤ) → IsNetwork net → IsSolution net q p c drawn → LowHolds net x → (j : ℕ) → j < net.nodes → (pos q *ℤ x j) ≤ℤ p j
 solution_at_least_low net q p c drawn x wf sol low j l =
-    let t = solution_at_most_high (mirror net) q (turned p) (turned c) (turned drawn) (turned x) (mirror_network net wf) (solution_turned net q p c drawn sol) (high_of_low net x low) j l in
-    omega (arith, ints, t, times_neg (pos q) (x j))
+    laws_at_least_low net q p c drawn x wf (laws_of_solution net q p c drawn sol)
+    (λ i v l' e. omega (arith, ints, sol.pads i v l' e)) low j l
 
 -- ---- currents
 -- The current through a resistor lies between the bounds that the lists give at its ends.

@@ -2,3 +2,4 @@ pub mod Failing
 pub mod Loose
 pub mod Certified
 pub mod Example
+pub mod OneSided

@@ -8,6 +8,7 @@ ghost use Rattle.grid_net.specs.Certificate.{HighHolds, LowHolds, IsCertificate}
 ghost use Rattle.bound_check.specs.declared.fails.Fails.{Fails};
 ghost use Rattle.bound_check.specs.declared.fails.Side.TheVariants.{HighValue, LowValue, HighFlow, LowFlow, High, Low};
 ghost use Rattle.bound_check.specs.Failing.{first_failing, IsFailing};
+ghost use Rattle.bound_check.specs.OneSided.{MeetsLaws, PadsAtMost, PadsAtLeast};
 ghost use Rattle.bound_check.specs.Example.{example, example_potential, example_current, example_drawn, example_high, example_low, example_less, example_thin};
 
 /// The maximum principle: each solution lies within the lists of a certificate, at each node, whatever its denominator.
@@ -17,6 +18,17 @@ pub fn maximum_principle()
         → LowHolds net low → IsSolution net q p c drawn → (i : ℕ) → i < net.nodes → (pos q *ℤ low i) ≤ℤ p i }
     ensures at_most_high { (net : Network) (high : ℕ → ℤ) (q : ℕ) (p c drawn : ℕ → ℤ) → IsNetwork net
         → HighHolds net high → IsSolution net q p c drawn → (i : ℕ) → i < net.nodes → p i ≤ℤ (pos q *ℤ high i) }
+{}
+
+/// The maximum principle on one side: where the laws are met and no pad is above its voltage, no node is above a list that
+/// meets the high half of the sums; and where no pad is below its voltage, none is below one that meets the low half.
+pub fn one_sided_principle()
+    ensures at_least_low { (net : Network) (low : ℕ → ℤ) (q : ℕ) (p c drawn : ℕ → ℤ) → IsNetwork net
+        → LowHolds net low → MeetsLaws net q p c drawn → PadsAtLeast net q p → (i : ℕ) → i < net.nodes
+        → (pos q *ℤ low i) ≤ℤ p i }
+    ensures at_most_high { (net : Network) (high : ℕ → ℤ) (q : ℕ) (p c drawn : ℕ → ℤ) → IsNetwork net
+        → HighHolds net high → MeetsLaws net q p c drawn → PadsAtMost net q p → (i : ℕ) → i < net.nodes
+        → p i ≤ℤ (pos q *ℤ high i) }
 {}
 
 /// There is no failing test exactly where the certificate holds.

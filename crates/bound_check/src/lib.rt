@@ -18,10 +18,7 @@ pub use certificate::is_certificate;
 pub use certified::{Certified, NANOAMPERE, NANOVOLT};
 pub use fails::{Fails, Side};
 pub use laws::{
-    a_refusal_is_true, a_search_goes_up, maximum_principle, no_failing_test, worked_example,
-    worked_refusals,
+    a_refusal_is_true, a_search_goes_up, maximum_principle, no_failing_test, one_sided_principle,
+    worked_example, worked_refusals,
 };
 pub use tight::is_tight;
-
-#[cfg(test)]
-mod tests;

@@ -19,5 +19,6 @@ mod Sweeps
 mod Made
 mod Halfway
 mod Answered
+mod Sided
 mod Scales
 mod Levels

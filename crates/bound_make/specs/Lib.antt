@@ -1,3 +1,4 @@
 pub mod Scale
 pub mod Certifier
+pub mod Halves
 pub mod inside

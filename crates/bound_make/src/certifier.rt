@@ -27,10 +27,10 @@ pub struct Certifier {
 /// A certifier's memory: its two lists and its region, and the greatest level of its network.
 #[derive(Drop)]
 pub struct Memory {
-    level: u32,
-    high: Vec<i128>,
-    low: Vec<i128>,
-    work: Region,
+    pub(crate) level: u32,
+    pub(crate) high: Vec<i128>,
+    pub(crate) low: Vec<i128>,
+    pub(crate) work: Region,
 }
 
 impl Model for Certifier {
@@ -56,7 +56,7 @@ fn level_at(net: &Net, node: u32) -> u32
 }
 
 /// The greatest level of a network, or 0 where it has no node.
-fn greatest_level(net: &Net) -> u32
+pub(crate) fn greatest_level(net: &Net) -> u32
     requires { (i : ℕ) → i < net.now.nodes → IsSupplied net.now i }
     ensures { IsGreatestLevel net.now result }
 {
@@ -69,7 +69,7 @@ fn greatest_level(net: &Net) -> u32
 }
 
 /// The memory that a certificate of a network takes.
-fn memory_for(alloc: Global, net: &Net) -> Result<Memory, AllocError>
+pub(crate) fn memory_for(alloc: Global, net: &Net) -> Result<Memory, AllocError>
     requires { (i : ℕ) → i < net.now.nodes → IsSupplied net.now i }
     ensures high { IfOk result (λ m. length m.high.items ≡ net.now.nodes) }
     ensures low { IfOk result (λ m. length m.low.items ≡ net.now.nodes) }
@@ -90,7 +90,7 @@ fn memory_for(alloc: Global, net: &Net) -> Result<Memory, AllocError>
 
 /// The cells of a work list of so many nodes: one for each in its ring, and one for its mark. None where the region
 /// has too few.
-fn list_span(work: &mut Region, nodes: usize) -> Span
+pub(crate) fn list_span(work: &mut Region, nodes: usize) -> Span
     requires { 2 * nodes < 2 ^ 64 }
     ensures { IsWithin result work.new }
 {
@@ -115,6 +115,7 @@ fn fill<V: Solver>(
     ensures range { (s : Range) × IsScaleOf net.now s × LieInRange net.now s high.new low.new
         × MadeOfTold net.now s (V.told solver.old) high.new low.new }
     ensures asked { Rose (V.proposals solver.old) (V.proposals solver.new) }
+    ensures counted { V.proposals solver.old ≤ V.proposals solver.new }
     ensures told { V.told solver.new ≡ V.told solver.old }
 {
     let nodes = net.nodes() as usize;
@@ -136,6 +137,7 @@ fn certify_in<V: Solver>(net: Net, memory: Memory, solver: &mut V) -> Certified
     ensures range { (s : Range) × IsScaleOf net s × LieInRange net s result.high result.low
         × MadeOfTold net s (V.told solver.old) result.high result.low }
     ensures asked { Rose (V.proposals solver.old) (V.proposals solver.new) }
+    ensures counted { V.proposals solver.old ≤ V.proposals solver.new }
     ensures told { V.told solver.new ≡ V.told solver.old }
 {
     let Memory {
@@ -171,6 +173,7 @@ impl Certifier {
         ensures range { (s : Range) × IsScaleOf self s × LieInRange self s result.high result.low
             × MadeOfTold self s (V.told solver.old) result.high result.low }
         ensures asked { Rose (V.proposals solver.old) (V.proposals solver.new) }
+        ensures counted { V.proposals solver.old ≤ V.proposals solver.new }
         ensures told { V.told solver.new ≡ V.told solver.old }
     {
         certify_in(self.net, self.memory, solver)

@@ -27,6 +27,3 @@ pub use lists::Lists;
 pub use read::read_certificate;
 pub use voltage::VOLTAGE_LIMIT;
 pub use written::certificate_text;
-
-#[cfg(test)]
-mod tests;

@@ -1,14 +1,26 @@
 -- The commands that words are.
-use Rattle.std.proofs.Common.{◌≡◌, ◌≢◌, ℕ, zero, suc, ◌+◌, ◌<◌, ◌≤◌, ◌^◌, List, [], ◌∷◌, ◌++◌, length, take, get_or, All, Contains, Bool, true, false, ◌&&◌, ◌==◌, not, codes, Option, Some, None, Result, Ok, Err, refl, sym, ◌∙◌, ap, subst, arith}
+use Rattle.std.proofs.Common.{◌≡◌, ◌≢◌, ℕ, zero, suc, ◌+◌, ◌<◌, ◌≤◌, ◌^◌, List, [], ◌∷◌, length, take, get_or, All, Contains, Bool, true, false, ◌&&◌, ◌==◌, not, codes, Some, Result, Ok, Err, refl, sym, ◌∙◌, ap, subst, arith}
 use Rattle.std.specs.List.{list_all}
 use Rattle.std.specs.Str.Parse.{digits_value}
 use Rattle.std.proofs.lemmas.List.Elements.{All-nil, All-cons, All-contains}
+use Rattle.std.specs.Prelude.{ℤ, pos, negsuc}
+use Rattle.number_place.specs.declared.place.NumberPlace.{NumberPlace}
+use Rattle.number_place.specs.declared.place.Refused.{Refused}
+use Rattle.number_place.specs.Place.{IsNumberAt, HasSign}
+use Rattle.std.proofs.Common.{Fits, to_z, of_z}
+use Rattle.std.specs.Prelude.{◌<ℤ◌, unsigned_abs}
+use Rattle.std.specs.Int.{w128}
+use Rattle.std.specs.Int.Signed.{pos-nat_abs}
+use Rattle.std.proofs.Math.IntN.{nat_abs}
+use Rattle.std.specs.Int.Signed.{non_neg}
+use Rattle.std.proofs.Math.Dec.{T}
+use Rattle.std.proofs.lemmas.Int.{ints, to_z-of_z, fits_signed_from_abs}
 use Rattle.command_words.specs.declared.command.Command.{Command}
-use Rattle.command_words.specs.declared.command.Command.TheVariants.{Build, Solve, Check, Generate}
+use Rattle.command_words.specs.declared.command.Command.TheVariants.{Build, Solve, Check, Step, Generate}
 use Rattle.command_words.specs.declared.command.WordsError.{WordsError}
 use Rattle.command_words.specs.Setting.{SetsEach, values_of}
-use Rattle.command_words.specs.Words.{build_options, solve_options, check_options, generate_options, AreApart, IsNumber, IsGenerate, IsCommand, IsUsage}
-use Rattle.command_words.specs.inside.Split.{HasNoEquals, texts, IsBuildOf, IsSolveOf, IsGenerateOf}
+use Rattle.command_words.specs.Words.{build_options, solve_options, check_options, step_options, generate_options, AreApart, IsNumber, IsTime, seconds, IsStep, IsGenerate, IsCommand, IsUsage}
+use Rattle.command_words.specs.inside.Split.{HasNoEquals, texts, IsBuildOf, IsSolveOf, IsStepOf, IsGenerateOf}
 use Rattle.command_words.proofs.Spelling.{settings_once, others_are, option_more, first_word, text_at}
 use Rattle.std.specs.Borrow.{Bor}
 use Rattle.std.specs.Prelude.{IsTrue, ◌↔◌, ◌-◌, drop}
@@ -22,7 +34,6 @@ use Rattle.std.proofs.lemmas.List.{length-map, length-take, get_or-take, get_or-
 use Rattle.std.proofs.lemmas.List.Quantifiers.{all_pairs_push}
 use Rattle.std.proofs.lemmas.List.Elements.{Contains-get_or}
 use Rattle.std.specs.Str.Parse.{AllDigits, ParsesUnsigned}
-use Rattle.std.specs.Char.{digit_value}
 
 -- ## options have no `=`
 
@@ -85,6 +96,22 @@ solve_check e = let t : 115 ≡ first_byte (codes "check") = ap first_byte e in 
 solve_generate : codes "solve" ≡ codes "generate" → ⊥
 solve_generate e = let t : 115 ≡ first_byte (codes "generate") = ap first_byte e in absurd (omega arith)
 
+abbrev second_byte : List ℕ → ℕ
+second_byte (first ∷ second ∷ bytes) = second
+second_byte bytes = 0
+
+build_step : codes "build" ≡ codes "step" → ⊥
+build_step e = let t : 98 ≡ first_byte (codes "step") = ap first_byte e in absurd (omega arith)
+
+solve_step : codes "solve" ≡ codes "step" → ⊥
+solve_step e = let t : 111 ≡ second_byte (codes "step") = ap second_byte e in absurd (omega arith)
+
+check_step : codes "check" ≡ codes "step" → ⊥
+check_step e = let t : 99 ≡ first_byte (codes "step") = ap first_byte e in absurd (omega arith)
+
+generate_step : codes "generate" ≡ codes "step" → ⊥
+generate_step e = let t : 103 ≡ first_byte (codes "step") = ap first_byte e in absurd (omega arith)
+
 check_generate : codes "check" ≡ codes "generate" → ⊥
 check_generate e = let t : 99 ≡ first_byte (codes "generate") = ap first_byte e in absurd (omega arith)
 
@@ -93,6 +120,7 @@ no_check words none (Check netlist certificate) h = none (netlist ∷ certificat
 no_check words none (Build a b c d e f g i j) h = build_check (sym (tails _ _ words h.0 h.1).0)
 no_check words none (Solve a b c) h = solve_check (sym (tails _ _ words h.0 h.1).0)
 no_check words none (Generate a b c d e f g) h = check_generate (tails _ _ words h.0 h.1).0
+no_check words none (Step a b t s c d) h = check_step (tails _ _ words h.0 h.1).0
 
 pub no_solve : (words : List (List ℕ)) → ((netlist certificate report : List ℕ) → SetsEach solve_options words (netlist ∷ certificate ∷ report ∷ []) → AreApart (certificate ∷ report ∷ []) → ⊥) → IsUsage (codes "solve" ∷ words)
 no_solve words none (Solve netlist certificate report) h =
@@ -100,6 +128,7 @@ no_solve words none (Solve netlist certificate report) h =
 no_solve words none (Build a b c d e f g i j) h = build_solve (sym (tails _ _ words h.0 h.1).0)
 no_solve words none (Check a b) h = solve_check (tails _ _ words h.0 h.1).0
 no_solve words none (Generate a b c d e f g) h = solve_generate (tails _ _ words h.0 h.1).0
+no_solve words none (Step a b t s c d) h = solve_step (tails _ _ words h.0 h.1).0
 
 pub no_build : (words : List (List ℕ)) → ((a b c d e f g i j : List ℕ) → SetsEach build_options words (a ∷ b ∷ c ∷ d ∷ e ∷ f ∷ g ∷ i ∷ j ∷ []) → AreApart (f ∷ g ∷ i ∷ j ∷ []) → ⊥) → IsUsage (codes "build" ∷ words)
 no_build words none (Build a b c d e f g i j) h =
@@ -107,29 +136,52 @@ no_build words none (Build a b c d e f g i j) h =
 no_build words none (Solve a b c) h = build_solve (tails _ _ words h.0 h.1).0
 no_build words none (Check a b) h = build_check (tails _ _ words h.0 h.1).0
 no_build words none (Generate a b c d e f g) h = build_generate (tails _ _ words h.0 h.1).0
+no_build words none (Step a b t s c d) h = build_step (tails _ _ words h.0 h.1).0
 
 pub no_generate : (words : List (List ℕ)) → ((files : List (List ℕ)) (number side : ℕ) → IsGenerate words files number side → ⊥) → IsUsage (codes "generate" ∷ words)
 no_generate words none (Generate n s c d e f g) h = none (c ∷ d ∷ e ∷ f ∷ g ∷ []) n s (subst (λ z. IsGenerate z (c ∷ d ∷ e ∷ f ∷ g ∷ []) n s) (sym (tails _ _ words h.0 h.1).1) h.2)
 no_generate words none (Build a b c d e f g i j) h = build_generate (sym (tails _ _ words h.0 h.1).0)
 no_generate words none (Solve a b c) h = solve_generate (sym (tails _ _ words h.0 h.1).0)
 no_generate words none (Check a b) h = check_generate (sym (tails _ _ words h.0 h.1).0)
+no_generate words none (Step a b t s c d) h = generate_step (tails _ _ words h.0 h.1).0
+
+pub no_step : (words : List (List ℕ)) → ((a b c d : List ℕ) (time steps : ℕ) → IsStep words a b c d time steps → ⊥) → IsUsage (codes "step" ∷ words)
+no_step words none (Step a b t s c d) h = none a b c d t s (subst (λ z. IsStep z a b c d t s) (sym (tails _ _ words h.0 h.1).1) h.2)
+no_step words none (Build a b c d e f g i j) h = build_step (sym (tails _ _ words h.0 h.1).0)
+no_step words none (Solve a b c) h = solve_step (sym (tails _ _ words h.0 h.1).0)
+no_step words none (Check a b) h = check_step (sym (tails _ _ words h.0 h.1).0)
+no_step words none (Generate a b c d e f g) h = generate_step (sym (tails _ _ words h.0 h.1).0)
 
 -- ## one command
 
-pub one_command : (words : List (List ℕ)) (x y : Command) → IsCommand words x → IsCommand words y → x ≡ y
-one_command words (Build a b c d e f g i j) (Build a' b' c' d' e' f' g' i' j') h k =
+-- A text has one answer in a place for a number.
+abbrev pub HasOne : Type 0
+HasOne = (place : NumberPlace) (text : List ℕ) (r s : Result ℤ Refused) → IsNumberAt place text r → IsNumberAt place text s → r ≡ s
+
+value_is : (v w : ℤ) → ◌≡◌ {A = Result ℤ Refused} (Ok v) (Ok w) → v ≡ w
+value_is v w h = cc
+
+abbrev whole : ℤ → ℕ
+whole (pos n) = n
+whole (negsuc n) = 0
+
+one_time : HasOne → (text : List ℕ) (a b : ℕ) → IsTime text a → IsTime text b → a ≡ b
+one_time one text a b h k = ap whole (value_is (pos a) (pos b) (one seconds text (Ok (pos a)) (Ok (pos b)) h k))
+
+pub one_command : HasOne → (words : List (List ℕ)) (x y : Command) → IsCommand words x → IsCommand words y → x ≡ y
+one_command one words (Build a b c d e f g i j) (Build a' b' c' d' e' f' g' i' j') h k =
     let same = each_once build_options h.0 _ _ refl h.2 (subst (λ z. SetsEach build_options z (a' ∷ b' ∷ c' ∷ d' ∷ e' ∷ f' ∷ g' ∷ i' ∷ j' ∷ [])) (sym (tails _ _ h.0 k.0 (sym h.1 ∙ k.1)).1) k.2) in
     let t : a ∷ b ∷ c ∷ d ∷ e ∷ f ∷ g ∷ i ∷ j ∷ [] ≡ a' ∷ b' ∷ c' ∷ d' ∷ e' ∷ f' ∷ g' ∷ i' ∷ j' ∷ [] = same in
     cc
-one_command words (Solve a b c) (Solve a' b' c') h k =
+one_command one words (Solve a b c) (Solve a' b' c') h k =
     let same = each_once solve_options h.0 _ _ refl h.2 (subst (λ z. SetsEach solve_options z (a' ∷ b' ∷ c' ∷ [])) (sym (tails _ _ h.0 k.0 (sym h.1 ∙ k.1)).1) k.2) in
     let t : a ∷ b ∷ c ∷ [] ≡ a' ∷ b' ∷ c' ∷ [] = same in
     cc
-one_command words (Check a b) (Check a' b') h k =
+one_command one words (Check a b) (Check a' b') h k =
     let same = each_once check_options h.0 _ _ refl h.2 (subst (λ z. SetsEach check_options z (a' ∷ b' ∷ [])) (sym (tails _ _ h.0 k.0 (sym h.1 ∙ k.1)).1) k.2) in
     let t : a ∷ b ∷ [] ≡ a' ∷ b' ∷ [] = same in
     cc
-one_command words (Generate n s c d e f g) (Generate n' s' c' d' e' f' g') h k =
+one_command one words (Generate n s c d e f g) (Generate n' s' c' d' e' f' g') h k =
     let x = h.2 in
     let y = subst (λ z. IsGenerate z (c' ∷ d' ∷ e' ∷ f' ∷ g' ∷ []) n' s') (sym (tails _ _ h.0 k.0 (sym h.1 ∙ k.1)).1) k.2 in
     let t : x.number_text ∷ x.side_text ∷ c ∷ d ∷ e ∷ f ∷ g ∷ [] ≡ y.number_text ∷ y.side_text ∷ c' ∷ d' ∷ e' ∷ f' ∷ g' ∷ [] = each_once generate_options h.0 _ _ refl x.each y.each in
@@ -138,18 +190,35 @@ one_command words (Generate n s c d e f g) (Generate n' s' c' d' e' f' g') h k =
     let number : n ≡ n' = sym x.number_is.1 ∙ ap (λ z. digits_value 10 z) first ∙ y.number_is.1 in
     let side : s ≡ s' = sym x.side_is.1 ∙ ap (λ z. digits_value 10 z) second ∙ y.side_is.1 in
     cc
-one_command words (Build a b c d e f g i j) (Solve a' b' c') h k = absurd (build_solve (tails _ _ h.0 k.0 (sym h.1 ∙ k.1)).0)
-one_command words (Build a b c d e f g i j) (Check a' b') h k = absurd (build_check (tails _ _ h.0 k.0 (sym h.1 ∙ k.1)).0)
-one_command words (Build a b c d e f g i j) (Generate a' b' c' d' e' f' g') h k = absurd (build_generate (tails _ _ h.0 k.0 (sym h.1 ∙ k.1)).0)
-one_command words (Solve a b c) (Build a' b' c' d' e' f' g' i' j') h k = absurd (build_solve (sym (tails _ _ h.0 k.0 (sym h.1 ∙ k.1)).0))
-one_command words (Solve a b c) (Check a' b') h k = absurd (solve_check (tails _ _ h.0 k.0 (sym h.1 ∙ k.1)).0)
-one_command words (Solve a b c) (Generate a' b' c' d' e' f' g') h k = absurd (solve_generate (tails _ _ h.0 k.0 (sym h.1 ∙ k.1)).0)
-one_command words (Check a b) (Build a' b' c' d' e' f' g' i' j') h k = absurd (build_check (sym (tails _ _ h.0 k.0 (sym h.1 ∙ k.1)).0))
-one_command words (Check a b) (Solve a' b' c') h k = absurd (solve_check (sym (tails _ _ h.0 k.0 (sym h.1 ∙ k.1)).0))
-one_command words (Check a b) (Generate a' b' c' d' e' f' g') h k = absurd (check_generate (tails _ _ h.0 k.0 (sym h.1 ∙ k.1)).0)
-one_command words (Generate a b c d e f g) (Build a' b' c' d' e' f' g' i' j') h k = absurd (build_generate (sym (tails _ _ h.0 k.0 (sym h.1 ∙ k.1)).0))
-one_command words (Generate a b c d e f g) (Solve a' b' c') h k = absurd (solve_generate (sym (tails _ _ h.0 k.0 (sym h.1 ∙ k.1)).0))
-one_command words (Generate a b c d e f g) (Check a' b') h k = absurd (check_generate (sym (tails _ _ h.0 k.0 (sym h.1 ∙ k.1)).0))
+one_command one words (Build a b c d e f g i j) (Solve a' b' c') h k = absurd (build_solve (tails _ _ h.0 k.0 (sym h.1 ∙ k.1)).0)
+one_command one words (Build a b c d e f g i j) (Check a' b') h k = absurd (build_check (tails _ _ h.0 k.0 (sym h.1 ∙ k.1)).0)
+one_command one words (Build a b c d e f g i j) (Generate a' b' c' d' e' f' g') h k = absurd (build_generate (tails _ _ h.0 k.0 (sym h.1 ∙ k.1)).0)
+one_command one words (Solve a b c) (Build a' b' c' d' e' f' g' i' j') h k = absurd (build_solve (sym (tails _ _ h.0 k.0 (sym h.1 ∙ k.1)).0))
+one_command one words (Solve a b c) (Check a' b') h k = absurd (solve_check (tails _ _ h.0 k.0 (sym h.1 ∙ k.1)).0)
+one_command one words (Solve a b c) (Generate a' b' c' d' e' f' g') h k = absurd (solve_generate (tails _ _ h.0 k.0 (sym h.1 ∙ k.1)).0)
+one_command one words (Check a b) (Build a' b' c' d' e' f' g' i' j') h k = absurd (build_check (sym (tails _ _ h.0 k.0 (sym h.1 ∙ k.1)).0))
+one_command one words (Check a b) (Solve a' b' c') h k = absurd (solve_check (sym (tails _ _ h.0 k.0 (sym h.1 ∙ k.1)).0))
+one_command one words (Check a b) (Generate a' b' c' d' e' f' g') h k = absurd (check_generate (tails _ _ h.0 k.0 (sym h.1 ∙ k.1)).0)
+one_command one words (Generate a b c d e f g) (Build a' b' c' d' e' f' g' i' j') h k = absurd (build_generate (sym (tails _ _ h.0 k.0 (sym h.1 ∙ k.1)).0))
+one_command one words (Generate a b c d e f g) (Solve a' b' c') h k = absurd (solve_generate (sym (tails _ _ h.0 k.0 (sym h.1 ∙ k.1)).0))
+one_command one words (Generate a b c d e f g) (Check a' b') h k = absurd (check_generate (sym (tails _ _ h.0 k.0 (sym h.1 ∙ k.1)).0))
+one_command one words (Step a b t s c d) (Step a' b' t' s' c' d') h k =
+    let x = h.2 in
+    let y = subst (λ z. IsStep z a' b' c' d' t' s') (sym (tails _ _ h.0 k.0 (sym h.1 ∙ k.1)).1) k.2 in
+    let e : x.time_text ∷ x.steps_text ∷ a ∷ b ∷ c ∷ d ∷ [] ≡ y.time_text ∷ y.steps_text ∷ a' ∷ b' ∷ c' ∷ d' ∷ [] = each_once step_options h.0 _ _ refl x.each y.each in
+    let first : x.time_text ≡ y.time_text = cc in
+    let second : x.steps_text ≡ y.steps_text = cc in
+    let time : t ≡ t' = one_time one y.time_text t t' (subst (λ z. IsTime z t) first x.time_is) y.time_is in
+    let steps : s ≡ s' = sym x.steps_is.1 ∙ ap (λ z. digits_value 10 z) second ∙ y.steps_is.1 in
+    cc
+one_command one words (Build a b c d e f g i j) (Step a' b' t' s' c' d') h k = absurd (build_step (tails _ _ h.0 k.0 (sym h.1 ∙ k.1)).0)
+one_command one words (Solve a b c) (Step a' b' t' s' c' d') h k = absurd (solve_step (tails _ _ h.0 k.0 (sym h.1 ∙ k.1)).0)
+one_command one words (Check a b) (Step a' b' t' s' c' d') h k = absurd (check_step (tails _ _ h.0 k.0 (sym h.1 ∙ k.1)).0)
+one_command one words (Generate a b c d e f g) (Step a' b' t' s' c' d') h k = absurd (generate_step (tails _ _ h.0 k.0 (sym h.1 ∙ k.1)).0)
+one_command one words (Step a b t s c d) (Build a' b' c' d' e' f' g' i' j') h k = absurd (build_step (sym (tails _ _ h.0 k.0 (sym h.1 ∙ k.1)).0))
+one_command one words (Step a b t s c d) (Solve a' b' c') h k = absurd (solve_step (sym (tails _ _ h.0 k.0 (sym h.1 ∙ k.1)).0))
+one_command one words (Step a b t s c d) (Check a' b') h k = absurd (check_step (sym (tails _ _ h.0 k.0 (sym h.1 ∙ k.1)).0))
+one_command one words (Step a b t s c d) (Generate a' b' c' d' e' f' g') h k = absurd (generate_step (sym (tails _ _ h.0 k.0 (sym h.1 ∙ k.1)).0))
 
 -- ## commands that are made of values
 
@@ -159,6 +228,7 @@ made_build words values (Build a b c d e f g i j) made each apart =
 made_build words values (Solve a b c) made each apart = absurd made
 made_build words values (Check a b) made each apart = absurd made
 made_build words values (Generate a b c d e f g) made each apart = absurd made
+made_build words values (Step a b t s c d) made each apart = absurd made
 
 pub made_solve : (words values : List (List ℕ)) (command : Command) → IsSolveOf values command → SetsEach solve_options words values → AreApart (drop 1 values) → IsCommand (codes "solve" ∷ words) command
 made_solve words values (Solve a b c) made each apart =
@@ -166,6 +236,7 @@ made_solve words values (Solve a b c) made each apart =
 made_solve words values (Build a b c d e f g i j) made each apart = absurd made
 made_solve words values (Check a b) made each apart = absurd made
 made_solve words values (Generate a b c d e f g) made each apart = absurd made
+made_solve words values (Step a b t s c d) made each apart = absurd made
 
 pub made_generate : (words values : List (List ℕ)) (number side : ℕ) (command : Command) → IsGenerateOf values number side command → SetsEach generate_options words values → AreApart (drop 2 values) →
     IsNumber (get_or values 0 []) number → IsNumber (get_or values 1 []) side → number < 2 ^ 64 → 24 ≤ side → side ≤ 300 → IsCommand (codes "generate" ∷ words) command
@@ -187,6 +258,28 @@ made_generate words values number side (Generate n s c d e f g) made each apart 
 made_generate words values number side (Build a b c d e f g i j) made each apart first second fits least greatest = absurd made
 made_generate words values number side (Solve a b c) made each apart first second fits least greatest = absurd made
 made_generate words values number side (Check a b) made each apart first second fits least greatest = absurd made
+made_generate words values number side (Step a b t s c d) made each apart first second fits least greatest = absurd made
+
+pub made_step : (words values : List (List ℕ)) (time steps : ℕ) (command : Command) → IsStepOf values time steps command → SetsEach step_options words values → AreApart (drop 4 values) →
+    IsTime (get_or values 0 []) time → IsNumber (get_or values 1 []) steps → 1 ≤ steps → steps ≤ 1000 → IsCommand (codes "step" ∷ words) command
+made_step words values time steps (Step a b t s c d) made each apart first second least greatest = (
+  words,
+  refl,
+  record {
+    time_text = made.0;
+    steps_text = made.1;
+    each = subst (λ z. SetsEach step_options words z) made.2 each;
+    time_is = subst (λ z. IsTime (get_or z 0 []) t) made.2 (subst (λ z. IsTime (get_or values 0 []) z) (sym made.3) first);
+    steps_is = subst (λ z. IsNumber (get_or z 1 []) s) made.2 (subst (λ z. IsNumber (get_or values 1 []) z) (sym made.4) second);
+    least_steps = (let e = made.4 in omega arith);
+    greatest_steps = (let e = made.4 in omega arith);
+    apart = subst (λ z. AreApart (drop 4 z)) made.2 apart;
+  },
+)
+made_step words values time steps (Build a b c d e f g i j) made each apart first second least greatest = absurd made
+made_step words values time steps (Solve a b c) made each apart first second least greatest = absurd made
+made_step words values time steps (Check a b) made each apart first second least greatest = absurd made
+made_step words values time steps (Generate a b c d e f g) made each apart first second least greatest = absurd made
 
 -- ## values that are not apart
 
@@ -230,7 +323,7 @@ t5 : (xs : List (Bor (List ℕ))) (d : Bor (List ℕ)) → length xs ≡ 5 → t
 t5 [] d h = absurd (omega arith)
 t5 (x ∷ xs) d h = ap (λ z. x.now ∷ z) (t4 xs d (omega arith))
 
-t6 : (xs : List (Bor (List ℕ))) (d : Bor (List ℕ)) → length xs ≡ 6 →
+pub t6 : (xs : List (Bor (List ℕ))) (d : Bor (List ℕ)) → length xs ≡ 6 →
     texts xs ≡ (get_or xs 0 d).now ∷ (get_or xs 1 d).now ∷ (get_or xs 2 d).now ∷ (get_or xs 3 d).now ∷ (get_or xs 4 d).now ∷ (get_or xs 5 d).now ∷ []
 t6 [] d h = absurd (omega arith)
 t6 (x ∷ xs) d h = ap (λ z. x.now ∷ z) (t5 xs d (omega arith))
@@ -314,3 +407,49 @@ side_missing words xs d each count none files number side h =
 
 pub number_at : (xs : List (Bor (List ℕ))) (i : ℕ) (d : Bor (List ℕ)) (n : ℕ) → i < length xs → IsNumber (get_or xs i d).now n → IsNumber (get_or (texts xs) i []) n
 number_at xs i d n h is = subst (λ z. IsNumber z n) (sym (text_at xs i d h)) is
+
+pub time_missing : (words : List (List ℕ)) (xs : List (Bor (List ℕ))) (d : Bor (List ℕ)) → SetsEach step_options words (texts xs) → length xs ≡ 6 →
+    ((n : ℕ) → IsTime (get_or xs 0 d).now n → ⊥) → (a b e f : List ℕ) (time steps : ℕ) → IsStep words a b e f time steps → ⊥
+time_missing words xs d each count none a b e f time steps h =
+    let same = each_once step_options words (texts xs) (h.time_text ∷ h.steps_text ∷ a ∷ b ∷ e ∷ f ∷ []) refl each h.each in
+    let is : (get_or xs 0 d).now ≡ h.time_text = sym (text_at xs 0 d (omega arith)) ∙ ap (λ z. get_or z 0 []) same in
+    none time (subst (λ z. IsTime z time) (sym is) h.time_is)
+
+pub steps_missing : (words : List (List ℕ)) (xs : List (Bor (List ℕ))) (d : Bor (List ℕ)) → SetsEach step_options words (texts xs) → length xs ≡ 6 →
+    ((n : ℕ) → IsNumber (get_or xs 1 d).now n → 1 ≤ n → n ≤ 1000 → ⊥) → (a b e f : List ℕ) (time steps : ℕ) → IsStep words a b e f time steps → ⊥
+steps_missing words xs d each count none a b e f time steps h =
+    let same = each_once step_options words (texts xs) (h.time_text ∷ h.steps_text ∷ a ∷ b ∷ e ∷ f ∷ []) refl each h.each in
+    let is : (get_or xs 1 d).now ≡ h.steps_text = sym (text_at xs 1 d (omega arith)) ∙ ap (λ z. get_or z 1 []) same in
+    none steps (subst (λ z. IsNumber z steps) (sym is) h.steps_is) h.least_steps h.greatest_steps
+
+pub time_at : (xs : List (Bor (List ℕ))) (i : ℕ) (d : Bor (List ℕ)) (n : ℕ) → i < length xs → IsTime (get_or xs i d).now n → IsTime (get_or (texts xs) i []) n
+time_at xs i d n h is = subst (λ z. IsTime z n) (sym (text_at xs i d h)) is
+
+refused_is : (r : Refused) (v : ℤ) → ◌≡◌ {A = Result ℤ Refused} (Err r) (Ok v) → ⊥
+refused_is r v h = cc
+
+pub no_time : (text : List ℕ) (r : Refused) (answer : Result ℤ Refused) (n : ℕ) → ((other : Result ℤ Refused) → IsNumberAt seconds text other → other ≡ answer) → answer ≡ Err r → IsTime text n → ⊥
+no_time text r answer n only e h = refused_is r (pos n) (sym (only (Ok (pos n)) h ∙ e))
+
+-- ## a time as the machine keeps it
+
+-- The value is above 0 and at most 1 s.
+abbrev pub IsPositive : ℤ → Type 0
+IsPositive v = (pos 0 <ℤ v) × (unsigned_abs v ≤ 10 ^ 18)
+
+pub is_positive : ((place : NumberPlace) (text : List ℕ) (v : ℤ) → IsNumberAt place text (Ok v) → unsigned_abs v ≤ place.limit) →
+    ((place : NumberPlace) (text : List ℕ) (v : ℤ) → IsNumberAt place text (Ok v) → HasSign place.sign v) → (text : List ℕ) (v : ℤ) → IsNumberAt seconds text (Ok v) → IsPositive v
+is_positive limited signed text v h = (signed seconds text v h, limited seconds text v h)
+
+pub positive_kept : (v : ℤ) → IsPositive v → to_z w128 (of_z w128 v) ≡ v
+positive_kept v h = to_z-of_z w128 v (fits_signed_from_abs w128 v (let within = h.1 in omega arith))
+
+fits_by : (v : ℤ) → IsPositive v → T (non_neg v) × Fits w128 (nat_abs v)
+fits_by (pos n) h = (tt, (let within : n ≤ 10 ^ 18 = h.1 in omega arith))
+fits_by (negsuc n) h = absurd (let above : pos 0 <ℤ negsuc n = h.0 in omega (arith, ints))
+
+pub positive_fits : (v : ℤ) → IsPositive v → T (non_neg (to_z w128 (of_z w128 v))) × Fits w128 (nat_abs (to_z w128 (of_z w128 v)))
+positive_fits v h = subst (λ z. T (non_neg z) × Fits w128 (nat_abs z)) (sym (positive_kept v h)) (fits_by v h)
+
+pub positive_same : (v : ℤ) → IsPositive v → pos (nat_abs (to_z w128 (of_z w128 v))) ≡ v
+positive_same v h = ap (λ z. pos (nat_abs z)) (positive_kept v h) ∙ pos-nat_abs v (fits_by v h).0

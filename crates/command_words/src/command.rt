@@ -8,6 +8,8 @@ use crate::build::build;
 use crate::file_name::FileName;
 use crate::generate::generate;
 use crate::short::{check, solve};
+use crate::step::step;
+use number_place::texts_have_one_number;
 use outside::Argv;
 use std::alloc::Global;
 use thiserror::Error;
@@ -48,6 +50,20 @@ pub enum Command {
     Check {
         netlist: FileName,
         certificate: FileName,
+    },
+    /// Bounds the voltages of a netlist with capacitors from step to step.
+    Step {
+        netlist: FileName,
+        /// The wave file.
+        waves: FileName,
+        /// How long a step is, in units of 10^-18 s, from 1 to 10^18.
+        time: u128,
+        /// How many steps there are after the first state, from 1 to 1000.
+        steps: u32,
+        /// The certificate, which is written.
+        certificate: FileName,
+        /// The report, which is written.
+        report: FileName,
     },
     /// Writes the texts of a made-up design.
     Generate {
@@ -110,6 +126,9 @@ fn command_of(alloc: Global, words: &[&str]) -> Result<Command, WordsError>
     if name == "generate" {
         return generate(alloc, others);
     }
+    if name == "step" {
+        return step(alloc, others);
+    }
     Err(WordsError::Usage)
 }
 
@@ -124,9 +143,11 @@ fn command_of(alloc: Global, words: &[&str]) -> Result<Command, WordsError>
 /// | `solve` | `--netlist --certificate --report` |
 /// | `check` | `--netlist --certificate` |
 /// | `generate` | `--number --side --lef --cells --def --pdn --bias` |
+/// | `step` | `--netlist --waves --time --steps --certificate --report` |
 ///
-/// The files that a command writes have different names: of `build` the last four, of `solve` the last two, of
-/// `generate` all. A number is ASCII digits: that of `--number` fits 64 bits, that of `--side` is from 24 to 300.
+/// The files that a command writes have different names: of `build` the last four, of `solve` and `step` the last two, of
+/// `generate` all. A number is ASCII digits: that of `--number` fits 64 bits, that of `--side` is from 24 to 300, that of
+/// `--steps` from 1 to 1000. That of `--time` is in seconds, with a scale or none, at 18 places, above 0 and at most 1 s.
 ///
 /// `Usage` comes exactly where the words are those of no command.
 pub fn read(alloc: Global, words: &Argv) -> Result<Command, WordsError>
@@ -143,4 +164,6 @@ pub fn read(alloc: Global, words: &Argv) -> Result<Command, WordsError>
 /// Words are those of one command at most.
 pub fn words_have_one_command()
     ensures { (words : List (List ℕ)) (a b : Named) → IsCommand words a → IsCommand words b → a ≡ b }
-{}
+{
+    texts_have_one_number();
+}

@@ -10,9 +10,7 @@ mod generate;
 mod number;
 mod settings;
 mod short;
+mod step;
 
 pub use command::{Command, WordsError, read, words_have_one_command};
 pub use file_name::FileName;
-
-#[cfg(test)]
-mod tests;

@@ -2,7 +2,17 @@
 ghost use Rattle.std.specs.Prelude.{◌≡◌, ◌<◌, ◌≤◌, ◌^◌, ℕ, IfNone, IfSome};
 ghost use Rattle.std.specs.List.{list_all};
 ghost use Rattle.std.specs.Char.{is_ascii_digit};
-ghost use Rattle.command_words.specs.Words.{IsNumber};
+ghost use Rattle.command_words.specs.Words.{IsNumber, IsTime, seconds};
+
+use number_place::{NumberForm, NumberPlace, NumberSign, number_at, values_fit_their_places};
+
+/// Seconds in units of 10^-18 s, with a scale or none, above 0 and at most 1 s.
+const SECONDS: NumberPlace = NumberPlace {
+    form: NumberForm::Scaled,
+    places: 18,
+    limit: 1_000_000_000_000_000_000,
+    sign: NumberSign::Positive,
+};
 
 /// Whether each byte is a digit.
 fn are_digits(text: &[u8]) -> bool
@@ -37,4 +47,29 @@ pub(crate) fn side_of(text: &str) -> Option<u32>
         return None;
     }
     Some(number as u32)
+}
+
+/// The number of steps that the digits write, from 1 to 1000.
+pub(crate) fn steps_of(text: &str) -> Option<u32>
+    ensures none { IfNone result ((steps : ℕ) → IsNumber text.now steps → 1 ≤ steps → steps ≤ 1000 → ⊥) }
+    ensures some { IfSome result (λ steps. IsNumber text.now steps) }
+    ensures range { IfSome result (λ steps. (1 ≤ steps) × (steps ≤ 1000)) }
+{
+    let number = number_of(text)?;
+    if number < 1 || number > 1000 {
+        return None;
+    }
+    Some(number as u32)
+}
+
+/// The time that the text stands for, in units of 10^-18 s, above 0 and at most 1 s.
+pub(crate) fn time_of(text: &str) -> Option<u128>
+    ensures none { IfNone result ((time : ℕ) → ¬ IsTime text.now time) }
+    ensures some { IfSome result (IsTime text.now) }
+{
+    values_fit_their_places();
+    match number_at(SECONDS, text.as_bytes()) {
+        Ok(time) => Some(time as u128),
+        Err(_) => None,
+    }
 }

@@ -26,6 +26,3 @@ pub use laws::texts_have_one_design;
 pub use number::{NUMBER_LIMIT, UNITS_LIMIT};
 pub use read::read_design;
 pub use record::{Blockage, Component, Design, Fence, Row};
-
-#[cfg(test)]
-mod tests;

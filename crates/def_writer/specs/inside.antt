@@ -2,4 +2,3 @@ pub mod Line
 pub mod Via
 pub mod Wiring
 pub mod Nets
-pub mod Tested

@@ -14,6 +14,3 @@ mod wiring;
 
 pub use text::def_text;
 pub use via::Via;
-
-#[cfg(test)]
-mod tests;

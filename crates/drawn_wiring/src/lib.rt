@@ -2,9 +2,5 @@
 #![tactic(auto)]
 
 mod laws;
-#[cfg(test)]
-mod made;
-#[cfg(test)]
-mod tests;
 
 pub use laws::drawn_grids_read_back;

@@ -14,6 +14,3 @@ pub use judging::verdict;
 pub use laws::{ends_tell, one_limit, one_verdict};
 pub use limits::{cut_limit, wire_limit};
 pub use words::Verdict;
-
-#[cfg(test)]
-mod tests;

@@ -43,6 +43,3 @@ impl<T> Entries<T> {
         &self.items
     }
 }
-
-#[cfg(test)]
-mod tests;

@@ -23,6 +23,3 @@ pub use laws::{
 pub use printer::{print, print_down, print_up};
 pub use reader::{read, read_spice};
 pub use sign::is_negative;
-
-#[cfg(test)]
-mod tests;

@@ -7,8 +7,6 @@ mod laws;
 mod rect;
 mod run;
 mod sweep;
-#[cfg(test)]
-mod tests;
 
 pub use direction::{Axis, Orient};
 pub use drawn::{Drawn, Shape};

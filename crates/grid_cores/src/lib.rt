@@ -6,8 +6,6 @@ mod cores;
 mod line;
 mod owner;
 mod reach;
-#[cfg(test)]
-mod tests;
 
 pub use cores::{core_of, one_core};
 pub use line::add_runs;

@@ -3,8 +3,6 @@
 
 mod extraction;
 mod laws;
-#[cfg(test)]
-mod tests;
 
 pub use extraction::extract;
 pub use laws::no_bad_end_nor_conflict;

@@ -9,8 +9,6 @@ mod design;
 mod fixed;
 mod inputs;
 mod part;
-#[cfg(test)]
-mod tests;
 
 pub use fixed::{CELLS, SCRIPT, TECHNOLOGY};
 pub use inputs::{Inputs, generate};

@@ -5,8 +5,6 @@
 mod branch;
 mod found;
 mod net;
-#[cfg(test)]
-mod tests;
 mod whole;
 
 pub use whole::limits;

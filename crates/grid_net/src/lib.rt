@@ -30,6 +30,3 @@ pub use network::Net;
 pub use note::Note;
 pub use part::{Load, LoadRange, Pad, Parts, Resistor};
 pub use solver::{Fixed, Solver};
-
-#[cfg(test)]
-mod tests;

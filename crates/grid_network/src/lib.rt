@@ -35,6 +35,3 @@ pub use key::Key;
 pub use laws::{ends_are_nodes, names_differ, one_network_or_refusal, one_rule_of_resistance};
 pub use pad::{PadOn, Tap};
 pub use segment::Segment;
-
-#[cfg(test)]
-mod tests;

@@ -8,5 +8,4 @@ pub mod Sweeping
 pub mod First
 pub mod Moved
 pub mod Upright
-pub mod Tested
 pub mod Kept

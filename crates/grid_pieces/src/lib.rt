@@ -12,8 +12,6 @@ mod metal;
 mod open;
 mod piece;
 mod place;
-#[cfg(test)]
-mod tests;
 mod touch;
 
 pub use cutting::pieces;

@@ -5,8 +5,6 @@ mod drawing;
 mod reach;
 mod shaping;
 mod site;
-#[cfg(test)]
-mod tests;
 
 pub use drawing::draw;
 pub use shaping::shapes;

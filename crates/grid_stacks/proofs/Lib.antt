@@ -5,4 +5,3 @@ pub mod Barred
 pub mod Bridge
 pub mod Refused
 pub mod Indexed
-pub mod Tested

@@ -2,4 +2,3 @@
 pub mod Bar
 pub mod Inner
 pub mod Standing
-pub mod Tested

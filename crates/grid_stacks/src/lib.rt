@@ -11,8 +11,6 @@ mod lying;
 mod over;
 mod stacking;
 mod standing;
-#[cfg(test)]
-mod tests;
 
 pub use connect::{Connect, Site};
 pub use stacking::stacks;

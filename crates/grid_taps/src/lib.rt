@@ -13,8 +13,6 @@ mod range;
 mod standing;
 mod supply;
 mod tapping;
-#[cfg(test)]
-mod tests;
 mod tree;
 
 pub use column::Column;

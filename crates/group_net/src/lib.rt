@@ -11,6 +11,3 @@ mod moved;
 
 pub use laws::{bounds_of_groups, conflicts_differ, nothing_shorted, solutions_by_groups};
 pub use merge::{GroupError, GroupNet, merge_net};
-
-#[cfg(test)]
-mod tests;

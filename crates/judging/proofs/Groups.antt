@@ -1,11 +1,11 @@
 -- Nodes stand in groups in one way.
-use Rattle.std.proofs.Common.{◌≡◌, ℕ, zero, suc, ◌<◌, ◌≤◌, arith, List, [], ◌∷◌, length, get_or, refl, sym, ap, subst, ◌∙◌, add-one}
+use Rattle.std.proofs.Common.{◌≡◌, ℕ, zero, suc, ◌<◌, ◌≤◌, arith, List, [], ◌∷◌, length, map, get_or, refl, sym, ap, subst, ◌∙◌, add-one}
 use Rattle.std.proofs.lemmas.List.{ext_get_or}
 use Rattle.std.specs.List.Sorted.{IsStrictlyIncreasing}
 use Rattle.node_groups.specs.Groups.{AreGroups}
 use Rattle.node_groups.specs.Laws.{rising}
 use Rattle.short_merge.specs.declared.merged.Merged.{Merged}
-use Rattle.short_merge.specs.Merged.{IsMerged}
+use Rattle.short_merge.specs.Merged.{IsMerged, merged_cap}
 use Rattle.spice_grid.specs.declared.named.Named.{Named}
 
 -- ---- lists that rise and have the same numbers
@@ -105,11 +105,12 @@ module _ (nodes : ℕ) (shorts : List (ℕ × ℕ)) (group firsts group' firsts'
 abbrev the_merged : Merged → Merged
 the_merged a = a
 
-same_merged : (a b : Merged) → a.net ≡ b.net → a.names ≡ b.names → a.group ≡ b.group → a ≡ b
-same_merged a b e f g =
-    ap (λ z. the_merged (record { net = z; names = a.names; group = a.group })) e
-    ∙ ap (λ z. the_merged (record { net = b.net; names = z; group = a.group })) f
-    ∙ ap (λ z. the_merged (record { net = b.net; names = b.names; group = z })) g
+same_merged : (a b : Merged) → a.net ≡ b.net → a.names ≡ b.names → a.group ≡ b.group → a.caps ≡ b.caps → a ≡ b
+same_merged a b e f g h =
+    ap (λ z. the_merged (record { net = z; names = a.names; group = a.group; caps = a.caps })) e
+    ∙ ap (λ z. the_merged (record { net = b.net; names = z; group = a.group; caps = a.caps })) f
+    ∙ ap (λ z. the_merged (record { net = b.net; names = b.names; group = z; caps = a.caps })) g
+    ∙ ap (λ z. the_merged (record { net = b.net; names = b.names; group = b.group; caps = z })) h
 
 -- A netlist has one merged network.
 pub one_merged : (named : Named) (a b : Merged) → IsMerged named a → IsMerged named b → a ≡ b
@@ -118,4 +119,5 @@ one_merged named a b x y =
     let g : a.group ≡ b.group = one_group named.net.nodes named.shorts a.group x.firsts b.group y.firsts x.groups y.groups in
     let net : a.net ≡ b.net = let p = x.network in let q = y.network in cc in
     let names : a.names ≡ b.names = let p = x.names in let q = y.names in cc in
-    same_merged a b net names g
+    let caps : a.caps ≡ b.caps = x.caps ∙ ap (λ z. map (merged_cap z) named.caps) g ∙ sym y.caps in
+    same_merged a b net names g caps

@@ -1,6 +1,7 @@
 //! The text of a netlist, up to the network of its groups.
 ghost use Rattle.std.specs.Prelude.{◌≡◌, ℕ, List, Ok, IfOk, IfErr, length};
 ghost use Rattle.spice_grid.specs.declared.named.Named.{Named as Netlist};
+ghost use Rattle.spice_grid.specs.Caps.{EndAmong, HaveCapacitance};
 ghost use Rattle.spice_grid.specs.Netlist.{ReadsNetlist, NamedKeeps};
 ghost use Rattle.judging.specs.Stage.{GivesNetwork, HasNoNetwork};
 
@@ -16,6 +17,8 @@ use std::alloc::Global;
 pub fn read_network(alloc: Global, netlist: &str, netlist_text: &[u8]) -> Result<Merged, Answer>
     ensures network { IfOk result (λ merged. (named : Netlist) × GivesNetwork netlist_text.now named merged) }
     ensures names { IfOk result (λ merged. length merged.names ≡ merged.net.nodes) }
+    ensures ends { IfOk result (λ merged. EndAmong merged.net.nodes merged.caps) }
+    ensures capacitances { IfOk result (λ merged. HaveCapacitance merged.caps) }
     ensures refused { IfErr result (λ answer. HasNoNetwork netlist.now netlist_text.now answer) }
 {
     match read_netlist(alloc, netlist_text) {
@@ -30,6 +33,8 @@ fn merge_named(alloc: Global, named: Named) -> Result<Merged, Answer>
     ensures network { IfOk result (λ merged. (text : List ℕ) → ReadsNetlist text (Ok named)
         → GivesNetwork text named merged) }
     ensures names { IfOk result (λ merged. length merged.names ≡ merged.net.nodes) }
+    ensures ends { IfOk result (λ merged. EndAmong merged.net.nodes merged.caps) }
+    ensures capacitances { IfOk result (λ merged. HaveCapacitance merged.caps) }
     ensures refused { IfErr result (λ answer. (netlist text : List ℕ) → ReadsNetlist text (Ok named)
         → HasNoNetwork netlist text answer) }
 {

@@ -22,6 +22,3 @@ pub use laws::texts_have_one_record;
 pub use number::LENGTH_LIMIT;
 pub use read::read_cells;
 pub use record::{Cells, MacroCell, Site};
-
-#[cfg(test)]
-mod tests;

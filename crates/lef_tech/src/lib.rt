@@ -41,6 +41,3 @@ pub use limits::{
 pub use read::read_tech;
 pub use rule::ViaRule;
 pub use tech::Tech;
-
-#[cfg(test)]
-mod tests;

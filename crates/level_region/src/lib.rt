@@ -5,8 +5,6 @@ mod laws;
 mod pairs;
 mod region;
 mod span;
-#[cfg(test)]
-mod tests;
 
 pub use laws::{spans_never_overlap, writes_stay_in_their_span};
 pub use region::Region;

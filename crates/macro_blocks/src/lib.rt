@@ -26,6 +26,3 @@ pub use laws::texts_have_one_record;
 pub use number::COORDINATE_LIMIT;
 pub use read::read_blocks;
 pub use record::{BlockMacro, BlockPin, BlockRect, Blocks};
-
-#[cfg(test)]
-mod tests;

@@ -75,6 +75,3 @@ fn add<'a>(
     places.insert(name, place)?;
     Ok(())
 }
-
-#[cfg(test)]
-mod tests;

@@ -10,6 +10,3 @@ mod table;
 
 pub use order::one_order;
 pub use table::{MOST_NAMES, NameError, NameTable, OrderedNames};
-
-#[cfg(test)]
-mod tests;

@@ -69,6 +69,3 @@ impl<'a, T: Drop> NamedEntries<'a, T> {
         Entries::new(self.entries)
     }
 }
-
-#[cfg(test)]
-mod tests;

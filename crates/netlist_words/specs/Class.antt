@@ -67,6 +67,7 @@ abbrev pub opened_by : Letter → Before
 opened_by letters.Resistor = Card
 opened_by letters.Source = Card
 opened_by letters.Load = Load
+opened_by letters.Capacitor = Card
 opened_by letters.Other = Card
 
 -- The same where one begins a card with these words.

@@ -14,8 +14,9 @@ abbrev pub is_dot : List Token → Bool
 is_dot [] = false
 is_dot (first ∷ words) = begins_with 46 first.text
 
--- The words have the form of a card: `Rname a b VALUE`, `Vname a b VALUE`, `Iname a b VALUE`, and with `DC` before the
--- value of the last two. A mistyped number is a value too, so that a card with a mistyped number is no title.
+-- The words have the form of a card: `Rname a b VALUE`, `Vname a b VALUE`, `Iname a b VALUE`, `Cname a b VALUE`, and with
+-- `DC` before the value of the second and the third. A mistyped number is a value too, so that a card with a mistyped
+-- number is no title.
 abbrev pub has_card_form : List Token → Bool
 has_card_form (card ∷ a ∷ b ∷ value ∷ []) = may_be_value (letter_of card.text) value.text
 has_card_form (card ∷ a ∷ b ∷ dc ∷ value ∷ []) = may_have_dc (letter_of card.text) && is_dc dc.text && not

@@ -126,6 +126,6 @@ fn opened_by(letter: Letter) -> Before
 {
     match letter {
         Letter::Load => Before::Load,
-        Letter::Resistor | Letter::Source | Letter::Other => Before::Card,
+        Letter::Resistor | Letter::Source | Letter::Capacitor | Letter::Other => Before::Card,
     }
 }

@@ -11,6 +11,8 @@ pub enum Letter {
     Source,
     /// `I`
     Load,
+    /// `C`
+    Capacitor,
     /// Any other byte, or none.
     Other,
 }
@@ -22,6 +24,7 @@ fn letter_of_byte(byte: u8) -> Letter
         b'R' | b'r' => Letter::Resistor,
         b'V' | b'v' => Letter::Source,
         b'I' | b'i' => Letter::Load,
+        b'C' | b'c' => Letter::Capacitor,
         _ => Letter::Other,
     }
 }
@@ -56,7 +59,7 @@ pub(crate) fn may_have_dc(letter: Letter) -> bool
 {
     match letter {
         Letter::Source | Letter::Load => true,
-        Letter::Resistor | Letter::Other => false,
+        Letter::Resistor | Letter::Capacitor | Letter::Other => false,
     }
 }
 
@@ -65,7 +68,7 @@ pub(crate) fn may_be_value(letter: Letter, text: &[u8]) -> bool
     ensures { result ≡ may_be_value letter text.now }
 {
     match letter {
-        Letter::Resistor => !is_mark(text),
+        Letter::Resistor | Letter::Capacitor => !is_mark(text),
         Letter::Source | Letter::Load => !is_mark(text) && !is_dc(text),
         Letter::Other => false,
     }

@@ -15,6 +15,3 @@ mod word;
 pub use laws::words_of_lines;
 pub use letter::{Letter, is_dc, is_mark, letter_of};
 pub use netlist::NetlistWords;
-
-#[cfg(test)]
-mod tests;

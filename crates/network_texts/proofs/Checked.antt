@@ -22,6 +22,9 @@ use Rattle.judging.specs.Texts.{HasNetwork, StandFor}
 use Rattle.reading.specs.declared.error.ReadError.{ReadError}
 use Rattle.reading.specs.Error.{Agree}
 use Rattle.short_merge.specs.Merged.{IsMerged}
+use Rattle.capacitors.specs.declared.Cap.{Cap}
+use Rattle.spice_cards.specs.Number.{IsCapacitance}
+use Rattle.spice_grid.specs.Caps.{IsAmong}
 use Rattle.spice_grid.specs.Netlist.{ReadsNetlist, NamedKeeps}
 use Rattle.spice_grid.specs.Written.{written_netlist}
 use Rattle.text_lex.specs.Piece.{IsBare}
@@ -79,6 +82,8 @@ module _ (names : List (List ℕ)) (laws : CheckLaws names) (net : Network) (not
       one_name_per_node = can.written.one_name_a_node;
       in_byte_order = can.written.in_byte_order;
       shorts_are_nodes = All-nil (λ (s : ℕ × ℕ). (s.0 < net.nodes) × (s.1 < net.nodes));
+      ends_among_nodes = All-nil (λ (cap : Cap). IsAmong net.nodes cap.a × IsAmong net.nodes cap.b);
+      capacitances = All-nil (λ (cap : Cap). IsCapacitance cap.farads);
     };
     built = can.written.built;
     groups_built = can.written.built;

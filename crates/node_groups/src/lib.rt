@@ -8,6 +8,3 @@ mod forest;
 mod groups;
 
 pub use groups::{Groups, group_nodes};
-
-#[cfg(test)]
-mod tests;

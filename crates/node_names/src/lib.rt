@@ -9,6 +9,3 @@ mod key;
 mod names;
 
 pub use names::{NodeNames, OrderedNodes};
-
-#[cfg(test)]
-mod tests;

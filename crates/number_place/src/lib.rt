@@ -9,6 +9,3 @@ mod place;
 pub use laws::{texts_have_one_number, values_fit_their_places};
 pub use number::{number_at, small_number_at};
 pub use place::{NumberForm, NumberPlace, NumberSign, Refused};
-
-#[cfg(test)]
-mod tests;

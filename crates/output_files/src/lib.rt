@@ -2,8 +2,6 @@
 #![tactic(auto)]
 
 mod output;
-#[cfg(test)]
-mod tests;
 mod writing;
 
 pub use output::{Output, Unwritten};

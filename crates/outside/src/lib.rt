@@ -33,6 +33,3 @@ pub use sound::{SoundFiles, SoundSink, sound_counts_never_rise};
 pub use std_files::StdFiles;
 pub use std_sink::StdSink;
 pub use whole::{LONGEST_TEXT, ReadError, WriteError, read_whole, send, write_whole};
-
-#[cfg(test)]
-mod tests;

@@ -4,9 +4,6 @@
 //! with the status that it answers.
 #![tactic(auto)]
 
-#[cfg(test)]
-mod tests;
-
 use multilevel_solve::Multilevel;
 use outside::{Argv, StdFiles, StdSink};
 use std::alloc::{AllocError, Global};

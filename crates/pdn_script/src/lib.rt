@@ -27,6 +27,3 @@ pub use error::{ScriptError, ScriptKind};
 pub use laws::texts_have_one_script;
 pub use read::read_script;
 pub use record::{Connect, Domain, GridRule, Ring, Script, Start, Stripe};
-
-#[cfg(test)]
-mod tests;

@@ -8,7 +8,7 @@ use Rattle.outside.specs.Whole.{longest_text}
 use Rattle.outside.specs.declared.whole.ReadError.{ReadError}
 use Rattle.outside.specs.declared.whole.ReadError.TheVariants as reading
 use Rattle.answers.specs.declared.answer.Answer.{Answer}
-use Rattle.answers.specs.declared.answer.Answer.TheVariants.{Usage, Want, ReadFault, WriteFault, TooLong, Refused, NoGrid, Range, PadConflict, Unsupplied, Built, Generated, Solved, Certified, NotCertified}
+use Rattle.answers.specs.declared.answer.Answer.TheVariants.{Usage, Want, ReadFault, WriteFault, TooLong, Refused, NoGrid, Range, TooManySteps, PadConflict, FloatingCapacitor, Unsupplied, Built, Generated, Solved, Stepped, Certified, NotCertified}
 use Rattle.answers.specs.declared.built.Built.{Built as Numbers}
 use Rattle.answers.specs.Answer.{status_of, built_status}
 use Rattle.building.specs.declared.outputs.Outputs.{Outputs}
@@ -21,10 +21,12 @@ use Rattle.pdn_signoff.specs.declared.build_files.BuildFiles.{BuildFiles}
 use Rattle.pdn_signoff.specs.Check.{FilesThen, NoneFailed, IsTextOf, IsTooLong}
 use Rattle.pdn_signoff.specs.Solve.{SolverThen, IsKept, WriteFailed}
 use Rattle.pdn_signoff.specs.Outputs.{AreWritten, Stops}
-use Rattle.pdn_signoff.specs.Build.{files_read, files_written, output_texts, IsInput, AreInputs, BuildsFiles, IsFirstUnread, FailsToRead, Builds}
+use Rattle.pdn_signoff.specs.Build.{files_read, files_written, output_texts, IsInput, AreInputs, BuildsFiles, Builds}
+use Rattle.pdn_signoff.specs.Inputs.{IsFirstUnread, FailsToRead}
 use Rattle.pdn_signoff.specs.Command.{ChangesAmong}
 use Rattle.pdn_signoff.specs.inside.Check.{unread_answer}
 use Rattle.pdn_signoff.specs.inside.Build.{AreRead, five_of, WritesBuilt}
+use Rattle.pdn_signoff.proofs.Reading.{text_known}
 use Rattle.pdn_signoff.proofs.Stopping.{stopped_alone, written_alone, kept_alone}
 
 -- The names of the outputs are those of the files that are written.
@@ -32,15 +34,10 @@ names_are : (f : BuildFiles) (outputs : Outputs) → names (output_texts f outpu
 names_are f outputs = refl
 
 -- ---- the texts that were read
-text_known : (known : Option Holdings) (f : BuildFiles) (texts : List (List ℕ)) → AreRead known f texts → (i : ℕ) → i < 5 → (file : List ℕ) → file ≡ get_or (files_read f) i [] → IsTextOf known file (get_or texts i [])
-text_known None f texts are i below file is = tt
-text_known (Some held) f texts are i below file is =
-    ap (λ all. get_or all i []) are.texts_are ∙ get_or-map (bytes_in held) (files_read f) i [] [] below ∙ ap (bytes_in held) (sym is)
-
 input_known : (known : Option Holdings) (f : BuildFiles) (texts : List (List ℕ)) → AreRead known f texts → (i : ℕ) → i < 5 → (file : List ℕ) → file ≡ get_or (files_read f) i [] → IsInput known file (record { file = file; text = get_or texts i [] })
 input_known known f texts are i below file is = record {
   file_is = refl;
-  text_is = text_known known f texts are i below file is;
+  text_is = text_known known (files_read f) texts are.texts_are i below file is;
   fits = are.fit i [] (subst (λ n. i < n) (sym are.count) below);
 }
 
@@ -64,26 +61,6 @@ one_of_two false = inr refl
 pub low_status : (numbers : Numbers) → (status_of (Built numbers) ≡ 0) ⊎ (status_of (Built numbers) ≡ 1)
 low_status numbers = one_of_two ((numbers.unsafe_ == 0) && (numbers.open == 0))
 
--- ---- the first file that was not read
-module _ (known : Option Holdings) (f : BuildFiles) (read : List (Bor (List ℕ))) (are : names_of read ≡ files_read f) (place : ℕ) (d : Bor (List ℕ)) (below : place < length read) where
-  five : length read ≡ 5
-  five = sym (length-map read (λ (n : Bor (List ℕ)). n.now)) ∙ ap length are
-
-  pub is_file : name_at (names_of read) place ≡ (get_or read place d).now
-  is_file = get_or-map (λ (n : Bor (List ℕ)). n.now) read place d [] below
-
-  pub first_unread : IfSome known (λ held. EachFits held longest_text (take place (names_of read))) → IsFirstUnread known f (get_or read place d).now place
-  first_unread earlier = record {
-    below = subst (λ n. place < n) five below;
-    is = sym is_file ∙ ap (λ (all : List (List ℕ)). name_at all place) are;
-    earlier = subst (λ (all : List (List ℕ)). IfSome known (λ held. EachFits held longest_text (take place all))) are earlier;
-  }
-
--- A read that failed, as it is told.
-pub read_failed : (before after : FilesThen) (file other : List ℕ) → file ≡ other → ReadFails before.known file before.counts after.counts → FailsToRead before after other
-read_failed before after file other same fails =
-    subst (FailsToRead before after) same (record { failed = record { fault = fails.fault; failed_read = fails.failed_read }; only = fails.only })
-
 -- The texts that were read.
 pub are_read : (known : Option Holdings) (f : BuildFiles) (read : List (Bor (List ℕ))) (texts : List (List ℕ)) → names_of read ≡ files_read f → length texts ≡ length read → IfSome known (λ held. AreTextsOf held (names_of read) texts) → All (λ text. length text ≤ longest_text) texts
     → AreRead known f texts
@@ -98,13 +75,13 @@ module _ (solver solver' : SolverThen) (before after : FilesThen) (f : BuildFile
   Cause answer = Builds solver solver' before after f answer
 
   -- A file was not read.
-  of_error : IsKept before after → (e : ReadError) (file : List ℕ) (place : ℕ) → IsFirstUnread before.known f file place → (e ≡ reading.ReadFault → FailsToRead before after file) → (e ≡ reading.TooLong → IsTooLong before.known file) → (e ≡ reading.TooLong → NoneFailed before after)
+  of_error : IsKept before after → (e : ReadError) (file : List ℕ) (place : ℕ) → IsFirstUnread before.known (files_read f) file place → (e ≡ reading.ReadFault → FailsToRead before after file) → (e ≡ reading.TooLong → IsTooLong before.known file) → (e ≡ reading.TooLong → NoneFailed before after)
       → Cause (unread_answer e file)
   of_error kept reading.ReadFault file place first fault long calm = (kept, (place, first, fault refl))
   of_error kept reading.TooLong file place first fault long calm = (kept, calm refl, (place, first, long refl))
   of_error kept reading.Want file place first fault long calm = inl kept
 
-  pub file_unread : IsKept before after → (e : ReadError) (file : List ℕ) (place : ℕ) → IsFirstUnread before.known f file place → (e ≡ reading.ReadFault → FailsToRead before after file) → (e ≡ reading.TooLong → IsTooLong before.known file) → (e ≡ reading.TooLong → NoneFailed before after)
+  pub file_unread : IsKept before after → (e : ReadError) (file : List ℕ) (place : ℕ) → IsFirstUnread before.known (files_read f) file place → (e ≡ reading.ReadFault → FailsToRead before after file) → (e ≡ reading.TooLong → IsTooLong before.known file) → (e ≡ reading.TooLong → NoneFailed before after)
       → (answer : Answer) → ((answer ≡ Want) ⊎ (answer ≡ unread_answer e file)) → Cause answer
   file_unread kept e file place first fault long calm answer (inl want) = subst Cause (sym want) (inl kept)
   file_unread kept e file place first fault long calm answer (inr told) = subst Cause (sym told) (of_error kept e file place first fault long calm)
@@ -123,6 +100,9 @@ module _ (solver solver' : SolverThen) (before after : FilesThen) (f : BuildFile
   texts_refused kept calm t are (Unsupplied node) sort why = (kept, calm, (t, are, why))
   texts_refused kept calm t are (Built numbers) sort why = absurd sort
   texts_refused kept calm t are Generated sort why = sort
+  texts_refused kept calm t are (FloatingCapacitor node) sort why = sort
+  texts_refused kept calm t are (TooManySteps number) sort why = sort
+  texts_refused kept calm t are (Stepped nodes steps) sort why = sort
   texts_refused kept calm t are (Solved nodes resistors sweeps) sort why = sort
   texts_refused kept calm t are (Certified nodes) sort why = sort
   texts_refused kept calm t are (NotCertified node side found) sort why = sort
@@ -150,6 +130,9 @@ module _ (solver solver' : SolverThen) (before after : FilesThen) (f : BuildFile
   want_built (Unsupplied node) why = inl why.0
   want_built (Built numbers) (outputs, builds, same, calm, asked, written) = inr (outputs, builds, inr written)
   want_built Generated why = absurd why
+  want_built (FloatingCapacitor node) why = absurd why
+  want_built (TooManySteps number) why = absurd why
+  want_built (Stepped nodes steps) why = absurd why
   want_built (Solved nodes resistors sweeps) why = absurd why
   want_built (Certified nodes) why = absurd why
   want_built (NotCertified node side found) why = absurd why
@@ -189,6 +172,9 @@ module _ (solver solver' : SolverThen) (before after : FilesThen) (f : BuildFile
   no_usage_built (Unsupplied node) why e = omega arith
   no_usage_built (Built numbers) why e = two_statuses numbers 2 (omega arith) e
   no_usage_built Generated why e = absurd why
+  no_usage_built (FloatingCapacitor node) why e = absurd why
+  no_usage_built (TooManySteps number) why e = absurd why
+  no_usage_built (Stepped nodes steps) why e = absurd why
   no_usage_built (Solved nodes resistors sweeps) why e = absurd why
   no_usage_built (Certified nodes) why e = absurd why
   no_usage_built (NotCertified node side found) why e = absurd why
@@ -206,6 +192,9 @@ module _ (solver solver' : SolverThen) (before after : FilesThen) (f : BuildFile
   none_failed_built (Unsupplied node) why fault want = why.1
   none_failed_built (Built numbers) why fault want = why.3
   none_failed_built Generated why fault want = absurd why
+  none_failed_built (FloatingCapacitor node) why fault want = absurd why
+  none_failed_built (TooManySteps number) why fault want = absurd why
+  none_failed_built (Stepped nodes steps) why fault want = absurd why
   none_failed_built (Solved nodes resistors sweeps) why fault want = absurd why
   none_failed_built (Certified nodes) why fault want = absurd why
   none_failed_built (NotCertified node side found) why fault want = absurd why
@@ -231,6 +220,9 @@ module _ (solver solver' : SolverThen) (before after : FilesThen) (f : BuildFile
   built_so (Unsupplied node) why e = absurd (elim e [ inl z ↦ omega arith | inr o ↦ omega arith ])
   built_so (Built numbers) (outputs, builds, same, calm, asked, written) e = record { outputs = outputs; builds = builds; status_is = ap built_status same; asked = asked; written = written }
   built_so Generated why e = absurd why
+  built_so (FloatingCapacitor node) why e = absurd why
+  built_so (TooManySteps number) why e = absurd why
+  built_so (Stepped nodes steps) why e = absurd why
   built_so (Solved nodes resistors sweeps) why e = absurd why
   built_so (Certified nodes) why e = absurd why
   built_so (NotCertified node side found) why e = absurd why

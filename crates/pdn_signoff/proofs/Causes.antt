@@ -4,7 +4,7 @@ use Rattle.outside.specs.Counts.{Rose}
 use Rattle.outside.specs.Files.{Holdings, bytes_in}
 use Rattle.outside.specs.Whole.{longest_text}
 use Rattle.answers.specs.declared.answer.Answer.{Answer}
-use Rattle.answers.specs.declared.answer.Answer.TheVariants.{Usage, Want, ReadFault, WriteFault, TooLong, Refused, NoGrid, Range, PadConflict, Unsupplied, Built, Generated, Solved, Certified, NotCertified}
+use Rattle.answers.specs.declared.answer.Answer.TheVariants.{Usage, Want, ReadFault, WriteFault, TooLong, Refused, NoGrid, Range, TooManySteps, PadConflict, FloatingCapacitor, Unsupplied, Built, Generated, Solved, Stepped, Certified, NotCertified}
 use Rattle.answers.specs.Answer.{status_of}
 use Rattle.bound_check.specs.Failing.{first_failing}
 use Rattle.certificate_file.specs.declared.lists.Lists.{Lists}
@@ -15,7 +15,7 @@ use Rattle.judging.specs.Judging.{Judges}
 use Rattle.short_merge.specs.declared.merged.Merged.{Merged}
 use Rattle.spice_grid.specs.declared.named.Named.{Named}
 use Rattle.command_words.specs.declared.command.Command.{Command}
-use Rattle.command_words.specs.declared.command.Command.TheVariants.{Build, Check, Solve, Generate}
+use Rattle.command_words.specs.declared.command.Command.TheVariants.{Build, Check, Solve, Generate, Step}
 use Rattle.command_words.specs.Words.{IsCommand}
 use Rattle.pdn_signoff.specs.declared.design_files.DesignFiles.{DesignFiles}
 use Rattle.pdn_signoff.specs.Words.{IsCheck, IsGenerate, WriteNothing, IsUsage}
@@ -24,6 +24,7 @@ use Rattle.pdn_signoff.specs.Solve.{SolverThen, IsKept, Solves}
 use Rattle.pdn_signoff.specs.Command.{SinkThen, IsCause, Ends, IsCheckOf, HasCertificate}
 use Rattle.pdn_signoff.proofs.Building.{no_usage_built, none_failed_built}
 use Rattle.pdn_signoff.proofs.Generating.{no_usage_made, none_failed_made}
+use Rattle.pdn_signoff.proofs.StepAnswers.{HaveSort, no_usage_stepped, none_failed_stepped}
 
 -- A run came to an answer that has its cause, and ended with it.
 abbrev pub Ran : List (List ℕ) → SolverThen → SolverThen → FilesThen → FilesThen → ℕ → SinkThen → SinkThen → Type 0
@@ -43,7 +44,8 @@ other_cause words solver solver' before after answer nothing (inl free) = inl fr
 other_cause words solver solver' before after answer nothing (inr (inl (n, c, is, kept, why))) = inr (n, c, is, why)
 other_cause words solver solver' before after answer nothing (inr (inr (inl (n, c, r, is, why)))) = absurd (nothing.0 n c r is)
 other_cause words solver solver' before after answer nothing (inr (inr (inr (inl (number, side, files, is, why))))) = absurd (nothing.1 number side files is)
-other_cause words solver solver' before after answer nothing (inr (inr (inr (inr (files, is, why))))) = absurd (nothing.2 files is)
+other_cause words solver solver' before after answer nothing (inr (inr (inr (inr (inl (files, is, why)))))) = absurd (nothing.2 files is)
+other_cause words solver solver' before after answer nothing (inr (inr (inr (inr (inr (files, is, why)))))) = absurd (nothing.3 files is)
 
 pub ran_other : (words : List (List ℕ)) (solver solver' : SolverThen) (before after : FilesThen) (result : ℕ) (out out' : SinkThen) → WriteNothing words → Ran words solver solver' before after result out out' → RanOther words before after result out out'
 ran_other words solver solver' before after result out out' nothing (answer, cause, ends) = (answer, other_cause words solver solver' before after answer nothing cause, ends)
@@ -56,7 +58,8 @@ kept words solver solver' before after result out out' (answer, cause, ends) not
       | inr (inl check) ↦ check.3
       | inr (inr (inl solve)) ↦ absurd (nothing.0 solve.0 solve.1 solve.2 solve.3)
       | inr (inr (inr (inl made))) ↦ absurd (nothing.1 made.0 made.1 made.2 made.3)
-      | inr (inr (inr (inr built))) ↦ absurd (nothing.2 built.0 built.1)
+      | inr (inr (inr (inr (inl built)))) ↦ absurd (nothing.2 built.0 built.1)
+      | inr (inr (inr (inr (inr steps)))) ↦ absurd (nothing.3 steps.0 steps.1)
     ]
 
 -- The status of an answer, or that of a line that was not written.
@@ -87,6 +90,9 @@ no_usage before after netlist certificate (WriteFault file) why e = why
 no_usage before after netlist certificate (Unsupplied node) why e = why
 no_usage before after netlist certificate (Built built) why e = why
 no_usage before after netlist certificate Generated why e = why
+no_usage before after netlist certificate (FloatingCapacitor node) why e = why
+no_usage before after netlist certificate (TooManySteps number) why e = why
+no_usage before after netlist certificate (Stepped nodes steps) why e = why
 no_usage before after netlist certificate (Solved nodes resistors sweeps) why e = why
 no_usage before after netlist certificate (Certified nodes) why e = absurd (omega arith)
 no_usage before after netlist certificate (NotCertified node side found) why e = absurd (omega arith)
@@ -105,13 +111,16 @@ no_usage_solved solver solver' before after n c r (PadConflict node first second
 no_usage_solved solver solver' before after n c r (Unsupplied node) why e = absurd (omega arith)
 no_usage_solved solver solver' before after n c r (Built built) why e = why
 no_usage_solved solver solver' before after n c r Generated why e = why
+no_usage_solved solver solver' before after n c r (FloatingCapacitor node) why e = why
+no_usage_solved solver solver' before after n c r (TooManySteps number) why e = why
+no_usage_solved solver solver' before after n c r (Stepped nodes steps) why e = why
 no_usage_solved solver solver' before after n c r (Solved nodes resistors sweeps) why e = absurd (omega arith)
 no_usage_solved solver solver' before after n c r (Certified nodes) why e = why
 no_usage_solved solver solver' before after n c r (NotCertified node side found) why e = why
 
 -- The status 2 has its cause.
-pub usage : (words : List (List ℕ)) (solver solver' : SolverThen) (before after : FilesThen) (result : ℕ) (out out' : SinkThen) → Ran words solver solver' before after result out out' → result ≡ 2 → IsUsage words
-usage words solver solver' before after result out out' (answer, cause, ends) is =
+pub usage : HaveSort → (words : List (List ℕ)) (solver solver' : SolverThen) (before after : FilesThen) (result : ℕ) (out out' : SinkThen) → Ran words solver solver' before after result out out' → result ≡ 2 → IsUsage words
+usage sort words solver solver' before after result out out' (answer, cause, ends) is =
     elim cause [
       | inl free ↦ elim free.1 [
         | inl want ↦ absurd (other_end 2 result out out' answer ends is (λ e. let ten : status_of answer ≡ 10 = ap status_of want in absurd (omega arith)) (omega arith))
@@ -120,7 +129,8 @@ usage words solver solver' before after result out out' (answer, cause, ends) is
       | inr (inl check) ↦ absurd (other_end 2 result out out' answer ends is (no_usage before after check.0 check.1 answer check.4) (omega arith))
       | inr (inr (inl solve)) ↦ absurd (other_end 2 result out out' answer ends is (no_usage_solved solver solver' before after solve.0 solve.1 solve.2 answer solve.4) (omega arith))
       | inr (inr (inr (inl made))) ↦ absurd (other_end 2 result out out' answer ends is (no_usage_made before after made.0 made.1 made.2 answer made.4) (omega arith))
-      | inr (inr (inr (inr built))) ↦ absurd (other_end 2 result out out' answer ends is (no_usage_built solver solver' before after built.0 answer built.2) (omega arith))
+      | inr (inr (inr (inr (inl built)))) ↦ absurd (other_end 2 result out out' answer ends is (no_usage_built solver solver' before after built.0 answer built.2) (omega arith))
+      | inr (inr (inr (inr (inr steps)))) ↦ absurd (other_end 2 result out out' answer ends is (no_usage_stepped sort solver solver' before after steps.0 answer steps.2) (omega arith))
     ]
 
 -- Words of no command end with 2, or with the status of a line that was not written, or with that of want of memory.
@@ -134,7 +144,8 @@ refused words solver solver' before after result out out' (answer, cause, ends) 
       | inr (inl check) ↦ absurd (unformed.0 check.0 check.1 check.2)
       | inr (inr (inl solve)) ↦ absurd (unformed.1 solve.0 solve.1 solve.2 solve.3)
       | inr (inr (inr (inl made))) ↦ absurd (unformed.2 made.0 made.1 made.2 made.3)
-      | inr (inr (inr (inr built))) ↦ absurd (unformed.3 built.0 built.1)
+      | inr (inr (inr (inr (inl built)))) ↦ absurd (unformed.3 built.0 built.1)
+      | inr (inr (inr (inr (inr steps)))) ↦ absurd (unformed.4 steps.0 steps.1)
     ]
 
 -- No call on the files failed, where the answer is neither that of a file that could not be read nor that of want of memory.
@@ -151,6 +162,9 @@ none_failed before after n c (WriteFault file) why read want = absurd why
 none_failed before after n c (Unsupplied node) why read want = absurd why
 none_failed before after n c (Built built) why read want = absurd why
 none_failed before after n c Generated why read want = absurd why
+none_failed before after n c (FloatingCapacitor node) why read want = absurd why
+none_failed before after n c (TooManySteps number) why read want = absurd why
+none_failed before after n c (Stepped nodes steps) why read want = absurd why
 none_failed before after n c (Solved nodes resistors sweeps) why read want = absurd why
 none_failed before after n c (Certified nodes) why read want = why.0
 none_failed before after n c (NotCertified node side found) why read want = why.0
@@ -168,13 +182,16 @@ none_failed_solved solver solver' before after n c r (PadConflict node first sec
 none_failed_solved solver solver' before after n c r (Unsupplied node) why read want = why.1
 none_failed_solved solver solver' before after n c r (Built built) why read want = absurd why
 none_failed_solved solver solver' before after n c r Generated why read want = absurd why
+none_failed_solved solver solver' before after n c r (FloatingCapacitor node) why read want = absurd why
+none_failed_solved solver solver' before after n c r (TooManySteps number) why read want = absurd why
+none_failed_solved solver solver' before after n c r (Stepped nodes steps) why read want = absurd why
 none_failed_solved solver solver' before after n c r (Solved nodes resistors sweeps) why read want = why.2
 none_failed_solved solver solver' before after n c r (Certified nodes) why read want = absurd why
 none_failed_solved solver solver' before after n c r (NotCertified node side found) why read want = absurd why
 
 -- A run that ends with another status than 3 and 10 met no failed call.
-pub calm : (words : List (List ℕ)) (solver solver' : SolverThen) (before after : FilesThen) (result : ℕ) (out out' : SinkThen) → Ran words solver solver' before after result out out' → result ≢ 3 → result ≢ 10 → NoneFailed before after × (out'.faults ≡ out.faults)
-calm words solver solver' before after result out out' (answer, cause, ends) read want =
+pub calm : HaveSort → (words : List (List ℕ)) (solver solver' : SolverThen) (before after : FilesThen) (result : ℕ) (out out' : SinkThen) → Ran words solver solver' before after result out out' → result ≢ 3 → result ≢ 10 → NoneFailed before after × (out'.faults ≡ out.faults)
+calm sort words solver solver' before after result out out' (answer, cause, ends) read want =
     elim ends [
       | inr (inl unwritten) ↦ absurd (read unwritten.0)
       | inr (inr short) ↦ absurd (want short.0)
@@ -185,7 +202,8 @@ calm words solver solver' before after result out out' (answer, cause, ends) rea
           | inr (inl check) ↦ none_failed before after check.0 check.1 answer check.4 (λ e. read (written.0 ∙ e)) (λ e. want (written.0 ∙ e))
           | inr (inr (inl solve)) ↦ none_failed_solved solver solver' before after solve.0 solve.1 solve.2 answer solve.4 (λ e. read (written.0 ∙ e)) (λ e. want (written.0 ∙ e))
           | inr (inr (inr (inl made))) ↦ none_failed_made before after made.0 made.1 made.2 answer made.4 (λ e. read (written.0 ∙ e)) (λ e. want (written.0 ∙ e))
-          | inr (inr (inr (inr built))) ↦ none_failed_built solver solver' before after built.0 answer built.2 (λ e. read (written.0 ∙ e)) (λ e. want (written.0 ∙ e))
+          | inr (inr (inr (inr (inl built)))) ↦ none_failed_built solver solver' before after built.0 answer built.2 (λ e. read (written.0 ∙ e)) (λ e. want (written.0 ∙ e))
+          | inr (inr (inr (inr (inr steps)))) ↦ none_failed_stepped sort solver solver' before after steps.0 answer steps.2 (λ e. read (written.0 ∙ e)) (λ e. want (written.0 ∙ e))
         ],
         written.2,
       )
@@ -211,6 +229,7 @@ check_writes_nothing laws words n c is = (
   λ n' c' r is'. let e = laws.one_command words (Check n c) (Solve n' c' r) is is' in cc,
   λ number side files is'. let e = laws.one_command words (Check n c) (Generate number side files.lef files.cells files.def files.pdn files.bias) is is' in cc,
   λ f is'. let e = laws.one_command words (Check n c) (Build f.lef f.cells f.def f.pdn f.bias f.out_def f.netlist f.certificate f.report) is is' in cc,
+  λ f is'. let e = laws.one_command words (Check n c) (Step f.netlist f.waves f.time f.steps f.certificate f.report) is is' in cc,
 )
 
 -- The words of `generate` name one number, one side and five files alone.
@@ -267,6 +286,9 @@ zero_over words before after n c (WriteFault file) is why e = absurd why
 zero_over words before after n c (Unsupplied node) is why e = absurd why
 zero_over words before after n c (Built built) is why e = absurd why
 zero_over words before after n c Generated is why e = absurd why
+zero_over words before after n c (FloatingCapacitor node) is why e = absurd why
+zero_over words before after n c (TooManySteps number) is why e = absurd why
+zero_over words before after n c (Stepped nodes steps) is why e = absurd why
 zero_over words before after n c (Solved nodes resistors sweeps) is why e = absurd why
 zero_over words before after n c (Certified nodes) is why e = record { n = n; c = c; is = is; nodes = nodes; judged = why }
 zero_over words before after n c (NotCertified node side found) is why e = absurd (omega arith)
@@ -378,6 +400,9 @@ module _ (laws : AreLaws) (none : NoFailing) (words : List (List ℕ)) (before a
   judged_over n c (Unsupplied node) is why = absurd why
   judged_over n c (Built built) is why = absurd why
   judged_over n c Generated is why = absurd why
+  judged_over n c (FloatingCapacitor node) is why = absurd why
+  judged_over n c (TooManySteps number) is why = absurd why
+  judged_over n c (Stepped nodes steps) is why = absurd why
   judged_over n c (Solved nodes resistors sweeps) is why = absurd why
   judged_over n c (Certified nodes) is why = judged_texts n c (Certified nodes) is (λ e. cc) why
   judged_over n c (NotCertified node side found) is why = judged_texts n c (NotCertified node side found) is (λ e. cc) why

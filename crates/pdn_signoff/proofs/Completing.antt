@@ -5,14 +5,14 @@ use Rattle.outside.specs.Files.{Holdings, bytes_in}
 use Rattle.outside.specs.Known.{WhereKnown}
 use Rattle.outside.specs.Whole.{longest_text}
 use Rattle.answers.specs.declared.answer.Answer.{Answer}
-use Rattle.answers.specs.declared.answer.Answer.TheVariants.{Usage, Want, ReadFault, WriteFault, TooLong, Refused, NoGrid, Range, PadConflict, Unsupplied, Built, Generated, Solved, Certified, NotCertified}
+use Rattle.answers.specs.declared.answer.Answer.TheVariants.{Usage, Want, ReadFault, WriteFault, TooLong, Refused, NoGrid, Range, TooManySteps, PadConflict, FloatingCapacitor, Unsupplied, Built, Generated, Solved, Stepped, Certified, NotCertified}
 use Rattle.answers.specs.Answer.{status_of, built_status}
 use Rattle.building.specs.declared.outputs.Outputs.{Outputs}
 use Rattle.building.specs.Inputs.{FileText, FiveTexts}
 use Rattle.building.specs.Refusal.{IsUnbuilt}
 use Rattle.certificate_file.specs.declared.lists.Lists.{Lists}
 use Rattle.command_words.specs.declared.command.Command.{Command}
-use Rattle.command_words.specs.declared.command.Command.TheVariants.{Build, Check, Solve, Generate}
+use Rattle.command_words.specs.declared.command.Command.TheVariants.{Build, Check, Solve, Generate, Step}
 use Rattle.grid_net.specs.Certificate.{IsCertificate}
 use Rattle.input_files.specs.Inputs.{name_at}
 use Rattle.judging.specs.Texts.{StandFor}
@@ -22,8 +22,9 @@ use Rattle.spice_grid.specs.declared.named.Named.{Named}
 use Rattle.pdn_signoff.specs.declared.build_files.BuildFiles.{BuildFiles}
 use Rattle.pdn_signoff.specs.Words.{IsBuild}
 use Rattle.pdn_signoff.specs.Check.{FilesThen, IsTooLong}
+use Rattle.pdn_signoff.specs.Inputs.{IsFirstUnread}
 use Rattle.pdn_signoff.specs.Solve.{SolverThen, IsKept}
-use Rattle.pdn_signoff.specs.Build.{files_read, files_written, output_texts, IsInput, AreInputs, BuildsFiles, RefusesFiles, IsFirstUnread, LeavesBuilt, AreAccepted, Builds}
+use Rattle.pdn_signoff.specs.Build.{files_read, files_written, output_texts, IsInput, AreInputs, BuildsFiles, RefusesFiles, LeavesBuilt, AreAccepted, Builds}
 use Rattle.pdn_signoff.specs.Command.{SinkThen, IsCause, Ends, LeavesBuildAccepted, ChangesAmong}
 use Rattle.pdn_signoff.proofs.Causes.{Ran, AreLaws, unhindered}
 use Rattle.pdn_signoff.proofs.Building.{IsBuilt, low_status, built_so, files_alone, kept_among, failed_write}
@@ -34,6 +35,7 @@ files_of f (Build a b c d e g h i j) = record { lef = a; cells = b; def = c; pdn
 files_of f (Solve n c r) = f
 files_of f (Check n c) = f
 files_of f (Generate m s a b c d e) = f
+files_of f (Step n w t s c r) = f
 
 abbrev the_command : BuildFiles → Command
 the_command f = Build f.lef f.cells f.def f.pdn f.bias f.out_def f.netlist f.certificate f.report
@@ -54,7 +56,9 @@ build_cause laws words solver solver' before after f answer is (inr (inr (inl (n
     let clash = laws.one_command words (Solve n c r) (the_command f) is' is in cc
 build_cause laws words solver solver' before after f answer is (inr (inr (inr (inl (number, side, files, is', why))))) =
     let clash = laws.one_command words (Generate number side files.lef files.cells files.def files.pdn files.bias) (the_command f) is' is in cc
-build_cause laws words solver solver' before after f answer is (inr (inr (inr (inr (f', is', why))))) =
+build_cause laws words solver solver' before after f answer is (inr (inr (inr (inr (inr (g, is', why)))))) =
+    let clash = laws.one_command words (Step g.netlist g.waves g.time g.steps g.certificate g.report) (the_command f) is' is in cc
+build_cause laws words solver solver' before after f answer is (inr (inr (inr (inr (inl (f', is', why)))))) =
     record { why = inr (subst (λ (x : BuildFiles). Builds solver solver' before after x answer) (same_build laws words f' f is' is) why) }
 
 -- The status of a run that ends with 0 or 1 is that of its answer.
@@ -105,7 +109,7 @@ module _ (solver solver' : SolverThen) (before after : FilesThen) (held : Holdin
       let here : AreInputs (Some held) f t' = subst (λ k. AreInputs k f t') known are in
       accepted.accepted answer (subst (λ (x : FiveTexts). IsUnbuilt x answer) (same_texts held f t' t here accepted.texts) why)
 
-  none_long : (file : List ℕ) (place : ℕ) → IsFirstUnread before.known f file place → ¬ IsTooLong before.known file
+  none_long : (file : List ℕ) (place : ℕ) → IsFirstUnread before.known (files_read f) file place → ¬ IsTooLong before.known file
   none_long file place first long =
       let more : longest_text < length (bytes_in held file) = subst (λ k. IsTooLong k file) known long in
       absurd (omega (arith, more, subst (λ (x : List ℕ). length (bytes_in held x) ≤ longest_text) (sym first.is) (each_fits held f t accepted.texts place first.below)))
@@ -124,6 +128,9 @@ module _ (solver solver' : SolverThen) (before after : FilesThen) (held : Holdin
   built_whole calm (Unsupplied node) why = let clash = none_refused (Unsupplied node) why in cc
   built_whole calm (Built numbers) why = elim (low_status numbers) [ inl z ↦ inl z | inr o ↦ inr (inl o) ]
   built_whole calm Generated why = absurd why
+  built_whole calm (FloatingCapacitor node) why = absurd why
+  built_whole calm (TooManySteps number) why = absurd why
+  built_whole calm (Stepped nodes steps) why = absurd why
   built_whole calm (Solved nodes resistors sweeps) why = absurd why
   built_whole calm (Certified nodes) why = absurd why
   built_whole calm (NotCertified node side found) why = absurd why

@@ -6,8 +6,13 @@ mod Exclude
 mod Generating
 mod Making
 mod Once
+mod Reading
+mod Running
 mod Signing
 mod Solving
+mod Staged
+mod StepAnswers
+mod Stepping
 mod Stopping
 mod Unread
 mod Writing

@@ -9,7 +9,7 @@ use Rattle.outside.specs.Counts.{FaultCounts, ChangesReads, Rose}
 use Rattle.outside.specs.Files.{Holdings, bytes_in}
 use Rattle.outside.specs.Whole.{longest_text}
 use Rattle.answers.specs.declared.answer.Answer.{Answer}
-use Rattle.answers.specs.declared.answer.Answer.TheVariants.{Usage, Want, ReadFault, WriteFault, TooLong, Refused, NoGrid, Range, PadConflict, Unsupplied, Built, Generated, Solved, Certified, NotCertified}
+use Rattle.answers.specs.declared.answer.Answer.TheVariants.{Usage, Want, ReadFault, WriteFault, TooLong, Refused, NoGrid, Range, TooManySteps, PadConflict, FloatingCapacitor, Unsupplied, Built, Generated, Solved, Stepped, Certified, NotCertified}
 use Rattle.answers.specs.declared.built.Built.{Built as Numbers}
 use Rattle.bound_check.specs.Certified.{Certificate}
 use Rattle.building.specs.Building.{Design, IsDesignOf, AreOutputsOf, numbers_of}
@@ -24,13 +24,14 @@ use Rattle.pdn_signoff.specs.declared.build_files.BuildFiles.{BuildFiles}
 use Rattle.pdn_signoff.specs.Words.{IsBuild}
 use Rattle.pdn_signoff.specs.Check.{FilesThen, NoneFailed, IsTooLong}
 use Rattle.pdn_signoff.specs.Solve.{SolverThen, WriteFailed}
-use Rattle.pdn_signoff.specs.Build.{files_read, AreInputs, BuildsFiles, RefusesFiles, IsFirstUnread, FailsToRead, TellOneGrid, AreBuiltAlike, Builds}
+use Rattle.pdn_signoff.specs.Build.{files_read, AreInputs, BuildsFiles, RefusesFiles, TellOneGrid, AreBuiltAlike, Builds}
+use Rattle.pdn_signoff.specs.Inputs.{IsFirstUnread}
 use Rattle.pdn_signoff.specs.Command.{IsCause, CanRise}
 use Rattle.pdn_signoff.proofs.Alike.{of_two}
 use Rattle.pdn_signoff.proofs.Building.{failed_write}
 use Rattle.pdn_signoff.proofs.Causes.{AreLaws, of_held}
 use Rattle.pdn_signoff.proofs.Completing.{build_cause, same_texts, each_fits}
-use Rattle.pdn_signoff.proofs.Exclude.{rose_or_stays}
+use Rattle.pdn_signoff.proofs.Staged.{IsStage, one_of_all}
 
 -- The laws of five texts, as they are handed in.
 pub record AreDesignLaws : Type 0 where
@@ -39,7 +40,7 @@ pub record AreDesignLaws : Type 0 where
   pub design : (told told' : Option (List ℤ × List ℤ)) (t : FiveTexts) (one other : Design) → IsDesignOf told t one → IsDesignOf told' t other → AreSameButCertificates one other
 
 -- Answers that are one are alike.
-alike_from : (a b : Answer) → a ≡ b → AreBuiltAlike a b
+pub alike_from : (a b : Answer) → a ≡ b → AreBuiltAlike a b
 alike_from Usage b e = e
 alike_from Want b e = e
 alike_from (ReadFault file) b e = e
@@ -52,6 +53,9 @@ alike_from (PadConflict node first second) b e = e
 alike_from (Unsupplied node) b e = e
 alike_from (Built numbers) b e = (numbers, sym e, record { pieces = refl; stacks = refl; nodes = refl; resistors = refl; pads = refl })
 alike_from Generated b e = e
+alike_from (FloatingCapacitor node) b e = e
+alike_from (TooManySteps number) b e = e
+alike_from (Stepped nodes steps) b e = e
 alike_from (Solved nodes resistors sweeps) b e = e
 alike_from (Certified nodes) b e = e
 alike_from (NotCertified node side found) b e = e
@@ -74,25 +78,7 @@ one_grid d e one other same x y = record {
 }
 
 module _ (laws : AreDesignLaws) (before after : FilesThen) (held : Holdings) (f : BuildFiles) (known : before.known ≡ Some held) (can : CanRise after.counts) where
-  -- The kinds of answers: a file could not be read, or an output not be written; or no call failed, and a file is too long, or the
-  -- texts are refused, or they are built.
-  pub record IsUnread (a : Answer) : Type 0 where
-    pub file : List ℕ
-    pub told : a ≡ ReadFault file
-    pub fails : FailsToRead before after file
-
-  pub record IsUnwritten (a : Answer) : Type 0 where
-    pub file : List ℕ
-    pub told : a ≡ WriteFault file
-    pub fails : WriteFailed before after file
-
-  pub record IsLong (a : Answer) : Type 0 where
-    pub file : List ℕ
-    pub told : a ≡ TooLong file
-    pub place : ℕ
-    pub first : IsFirstUnread (Some held) f file place
-    pub long : longest_text < length (bytes_in held file)
-
+  -- The answers that come of the texts: these are refused, or they are built.
   pub record IsRefused (a : Answer) : Type 0 where
     pub some : a ≢ Want
     pub texts : FiveTexts
@@ -112,49 +98,6 @@ module _ (laws : AreDesignLaws) (before after : FilesThen) (held : Holdings) (f 
   abbrev pub IsShort : Answer → Type 0
   IsShort a = IsRefused a ⊎ IsBuilt a
 
-  abbrev pub IsQuiet : Answer → Type 0
-  IsQuiet a = NoneFailed before after × (IsLong a ⊎ IsShort a)
-
-  abbrev pub IsStage : Answer → Type 0
-  IsStage a = IsUnread a ⊎ (IsUnwritten a ⊎ IsQuiet a)
-
-  -- ---- each kind has one answer
-  read_rose : (file : List ℕ) → FailsToRead before after file → Rose (before.counts.reads file) (after.counts.reads file)
-  read_rose file fails = of_held (λ _. Rose (before.counts.reads file) (after.counts.reads file)) before.known held known fails.failed.failed_read
-
-  write_rose : (file : List ℕ) → WriteFailed before after file → Rose (before.counts.writes file) (after.counts.writes file)
-  write_rose file fails = of_held (λ _. Rose (before.counts.writes file) (after.counts.writes file)) before.known held known fails.failed_write
-
-  one_read : (g h : List ℕ) (same : Bool) → bytes_eq g h ≡ same → FailsToRead before after g → FailsToRead before after h → g ≡ h
-  one_read g h true is x y = (bytes_eq-Decides g h).0 is
-  one_read g h false is x y = absurd (rose_or_stays _ _ (read_rose g x) (y.only.reads g (λ e. let clash = sym is ∙ (bytes_eq-Decides g h).1 e in cc)) (can.reads g))
-
-  one_written : (g h : List ℕ) (same : Bool) → bytes_eq g h ≡ same → WriteFailed before after g → WriteFailed before after h → g ≡ h
-  one_written g h true is x y = (bytes_eq-Decides g h).0 is
-  one_written g h false is x y = absurd (rose_or_stays _ _ (write_rose g x) (y.only.writes g (λ e. let clash = sym is ∙ (bytes_eq-Decides g h).1 e in cc)) (can.writes g))
-
-  one_unread : (a b : Answer) → IsUnread a → IsUnread b → AreBuiltAlike a b
-  one_unread a b x y = alike_from a b (x.told ∙ ap ReadFault (one_read x.file y.file (bytes_eq x.file y.file) refl x.fails y.fails) ∙ sym y.told)
-
-  one_unwritten : (a b : Answer) → IsUnwritten a → IsUnwritten b → AreBuiltAlike a b
-  one_unwritten a b x y = alike_from a b (x.told ∙ ap WriteFault (one_written x.file y.file (bytes_eq x.file y.file) refl x.fails y.fails) ∙ sym y.told)
-
-  -- A file before the first that was not read is not too long.
-  earlier_fits : (file other : List ℕ) (place later : ℕ) → place < later → IsFirstUnread (Some held) f file place → IsFirstUnread (Some held) f other later → length (bytes_in held file) ≤ longest_text
-  earlier_fits file other place later before_it x y =
-      let inside : place < length (take later (files_read f)) = omega (arith, before_it, y.below, length-take later (files_read f)) in
-      let fits : length (bytes_in held (get_or (take later (files_read f)) place [])) ≤ longest_text = y.earlier place [] inside in
-      let there : get_or (take later (files_read f)) place [] ≡ get_or (files_read f) place [] = get_or-take later (files_read f) place [] before_it in
-      subst (λ (n : List ℕ). length (bytes_in held n) ≤ longest_text) (there ∙ sym x.is) fits
-
-  one_place : (a b : Answer) (x : IsLong a) (y : IsLong b) → (x.place ≡ y.place) ⊎ ((x.place < y.place) ⊎ (y.place < x.place)) → x.file ≡ y.file
-  one_place a b x y (inl same) = x.first.is ∙ ap (name_at (files_read f)) same ∙ sym y.first.is
-  one_place a b x y (inr (inl less)) = let fits = earlier_fits x.file y.file x.place y.place less x.first y.first in absurd (omega (arith, fits, x.long))
-  one_place a b x y (inr (inr more)) = let fits = earlier_fits y.file x.file y.place x.place more y.first x.first in absurd (omega (arith, fits, y.long))
-
-  one_long : (a b : Answer) → IsLong a → IsLong b → AreBuiltAlike a b
-  one_long a b x y = alike_from a b (x.told ∙ ap TooLong (one_place a b x y (cases_order x.place y.place)) ∙ sym y.told)
-
   texts_here : (t t' : FiveTexts) → AreInputs (Some held) f t → AreInputs (Some held) f t' → t ≡ t'
   texts_here t t' = same_texts held f t t'
 
@@ -171,39 +114,22 @@ module _ (laws : AreDesignLaws) (before after : FilesThen) (held : Holdings) (f 
   refused_or_built : (a b : Answer) → IsRefused a → IsBuilt b → ⊥
   refused_or_built a b x y = x.some (laws.apart y.solver y.texts y.design a y.is (subst (λ t. IsUnbuilt t a) (texts_here x.texts y.texts x.are y.are) x.why))
 
-  one_short : (a b : Answer) → IsShort a → IsShort b → AreBuiltAlike a b
+  pub one_short : (a b : Answer) → IsShort a → IsShort b → AreBuiltAlike a b
   one_short = of_two AreBuiltAlike IsRefused IsBuilt one_refused one_built refused_or_built
 
-  not_long : (t : FiveTexts) → AreInputs (Some held) f t → (a : Answer) → IsLong a → ⊥
-  not_long t are a x =
-      let fits = subst (λ (n : List ℕ). length (bytes_in held n) ≤ longest_text) (sym x.first.is) (each_fits held f t are x.place x.first.below) in
-      omega (arith, fits, x.long)
+  pub no_long : (a : Answer) → IsShort a → (place : ℕ) → place < 5 → length (bytes_in held (name_at (files_read f) place)) ≤ longest_text
+  no_long a (inl x) = each_fits held f x.texts x.are
+  no_long a (inr x) = each_fits held f x.texts x.are
 
-  long_or_short : (a b : Answer) → IsLong a → IsShort b → ⊥
-  long_or_short a b x (inl y) = not_long y.texts y.are a x
-  long_or_short a b x (inr y) = not_long y.texts y.are a x
-
-  one_quiet : (a b : Answer) → (IsLong a ⊎ IsShort a) → (IsLong b ⊎ IsShort b) → AreBuiltAlike a b
-  one_quiet = of_two AreBuiltAlike IsLong IsShort one_long one_short long_or_short
-
-  one_later : (a b : Answer) → (IsUnwritten a ⊎ IsQuiet a) → (IsUnwritten b ⊎ IsQuiet b) → AreBuiltAlike a b
-  one_later =
-      of_two AreBuiltAlike IsUnwritten IsQuiet one_unwritten (λ a b x y. one_quiet a b x.1 y.1)
-      (λ a b x y. rose_or_stays _ _ x.fails.fault (ap (λ (k : FaultCounts). k.faults) y.0) can.faults)
-
-  not_unread : (a b : Answer) → IsUnread a → (IsUnwritten b ⊎ IsQuiet b) → ⊥
-  not_unread a b x (inl y) = rose_or_stays _ _ (read_rose x.file x.fails) (ap (λ (g : List ℕ → ℕ). g x.file) y.fails.only.reads) (can.reads x.file)
-  not_unread a b x (inr y) = rose_or_stays _ _ x.fails.failed.fault (ap (λ (k : FaultCounts). k.faults) y.0) can.faults
-
-  one_of_all : (a b : Answer) → IsStage a → IsStage b → AreBuiltAlike a b
-  one_of_all = of_two AreBuiltAlike IsUnread (λ a. IsUnwritten a ⊎ IsQuiet a) one_unread one_later not_unread
+  abbrev pub IsBuildStage : Answer → Type 0
+  IsBuildStage = IsStage before after held (files_read f) known can AreBuiltAlike alike_from IsShort one_short no_long
 
   -- ---- the kind of an answer
-  refused_stage : (a : Answer) → a ≢ Want → RefusesFiles before after f a → IsStage a
+  refused_stage : (a : Answer) → a ≢ Want → RefusesFiles before after f a → IsBuildStage a
   refused_stage a some (kept, none, (t, are, why)) =
       inr (inr (none, inr (inl (record { some = some; texts = t; are = subst (λ k. AreInputs k f t) known are; why = why }))))
 
-  pub stage_of : (solver solver' : SolverThen) (a : Answer) → a ≢ Want → Builds solver solver' before after f a → IsStage a
+  pub stage_of : (solver solver' : SolverThen) (a : Answer) → a ≢ Want → Builds solver solver' before after f a → IsBuildStage a
   stage_of solver solver' Usage some why = absurd why
   stage_of solver solver' Want some why = absurd (some refl)
   stage_of solver solver' (ReadFault file) some (kept, (place, first, fails)) = inl (record { file = file; told = refl; fails = fails })
@@ -216,7 +142,7 @@ module _ (laws : AreDesignLaws) (before after : FilesThen) (held : Holdings) (f 
           file = file;
           told = refl;
           place = place;
-          first = subst (λ k. IsFirstUnread k f file place) known first;
+          first = subst (λ k. IsFirstUnread k (files_read f) file place) known first;
           long = subst (λ k. IsTooLong k file) known long;
         }),
       ))
@@ -247,9 +173,15 @@ module _ (laws : AreDesignLaws) (before after : FilesThen) (held : Holdings) (f 
         })),
       ))
   stage_of solver solver' Generated some why = absurd why
+  stage_of solver solver' (FloatingCapacitor node) some why = absurd why
+  stage_of solver solver' (TooManySteps number) some why = absurd why
+  stage_of solver solver' (Stepped nodes steps) some why = absurd why
   stage_of solver solver' (Solved nodes resistors sweeps) some why = absurd why
   stage_of solver solver' (Certified nodes) some why = absurd why
   stage_of solver solver' (NotCertified node side found) some why = absurd why
+
+  pub one_build : (a b : Answer) → IsBuildStage a → IsBuildStage b → AreBuiltAlike a b
+  one_build = one_of_all before after held (files_read f) known can AreBuiltAlike alike_from IsShort one_short no_long
 
 pub built_once : AreLaws → AreDesignLaws → (words : List (List ℕ)) (solver solver' : SolverThen) (before after : FilesThen) (held : Holdings) (f : BuildFiles) (a b : Answer) → before.known ≡ Some held → CanRise after.counts → IsBuild words f
     → IsCause words solver solver' before after a → IsCause words solver solver' before after b → a ≢ Want → b ≢ Want → AreBuiltAlike a b
@@ -258,6 +190,6 @@ built_once laws design words solver solver' before after held f a b known can is
       | inl want ↦ absurd (some_a want.0)
       | inr x_why ↦ elim (build_cause laws words solver solver' before after f b is y).why [
         | inl want ↦ absurd (some_b want.0)
-        | inr y_why ↦ one_of_all design before after held f known can a b (stage_of design before after held f known can solver solver' a some_a x_why) (stage_of design before after held f known can solver solver' b some_b y_why)
+        | inr y_why ↦ one_build design before after held f known can a b (stage_of design before after held f known can solver solver' a some_a x_why) (stage_of design before after held f known can solver solver' b some_b y_why)
       ]
     ]

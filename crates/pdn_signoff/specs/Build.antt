@@ -1,22 +1,22 @@
 -- What `build` answers, and what has to be so where it gives each answer.
-use Rattle.std.specs.Prelude.{◌≡◌, ◌≤◌, ◌<◌, ◌⊎◌, ℕ, ℤ, List, [], ◌∷◌, Option, Some, IfSome, length, take}
-use Rattle.outside.specs.Counts.{ChangesReads, Rose}
+use Rattle.std.specs.Prelude.{◌≡◌, ◌≤◌, ◌⊎◌, ℕ, ℤ, List, [], ◌∷◌, Option, Some, length}
+use Rattle.outside.specs.Counts.{Rose}
 use Rattle.outside.specs.Files.{Holdings}
 use Rattle.outside.specs.Whole.{longest_text}
 use Rattle.answers.specs.Answer.{built_status}
 use Rattle.answers.specs.declared.answer.Answer.{Answer}
 use Rattle.answers.specs.declared.built.Built.{Built as Numbers}
-use Rattle.answers.specs.declared.answer.Answer.TheVariants.{Usage, Want, ReadFault, WriteFault, TooLong, Refused, NoGrid, Range, PadConflict, Unsupplied, Built, Generated, Solved, Certified, NotCertified}
+use Rattle.answers.specs.declared.answer.Answer.TheVariants.{Usage, Want, ReadFault, WriteFault, TooLong, Refused, NoGrid, Range, TooManySteps, PadConflict, FloatingCapacitor, Unsupplied, Built, Generated, Solved, Stepped, Certified, NotCertified}
 use Rattle.building.specs.declared.outputs.Outputs.{Outputs}
 use Rattle.building.specs.Building.{Design, IsDesignOf, AreOutputsOf}
 use Rattle.building.specs.Checked.{PassesCheck}
 use Rattle.building.specs.Inputs.{FileText, FiveTexts}
 use Rattle.building.specs.Refusal.{IsUnbuilt}
 use Rattle.building.specs.Solutions.{SolutionsKeep}
-use Rattle.input_files.specs.Inputs.{name_at, EachFits}
 use Rattle.output_files.specs.Outputs.{Texts, HoldEach}
 use Rattle.pdn_signoff.specs.declared.build_files.BuildFiles.{BuildFiles}
-use Rattle.pdn_signoff.specs.Check.{FilesThen, NoneFailed, ReadFailed, IsTextOf, IsTooLong}
+use Rattle.pdn_signoff.specs.Check.{FilesThen, NoneFailed, IsTextOf, IsTooLong}
+use Rattle.pdn_signoff.specs.Inputs.{IsFirstUnread, FailsToRead}
 use Rattle.pdn_signoff.specs.Solve.{SolverThen, IsKept}
 use Rattle.pdn_signoff.specs.Outputs.{AreWritten, StopsAt, Stops}
 
@@ -66,26 +66,15 @@ RefusesFiles before after f answer =
     IsKept before after × NoneFailed before after
     × ((t : FiveTexts) × AreInputs before.known f t × IsUnbuilt t answer)
 
--- The file of a place is the first that was not read: each before it has at most as many bytes as an input may have.
-pub record IsFirstUnread (known : Option Holdings) (f : BuildFiles) (file : List ℕ) (place : ℕ) : Type 0 where
-  pub below : place < 5
-  pub is : file ≡ name_at (files_read f) place
-  pub earlier : IfSome known (λ held. EachFits held longest_text (take place (files_read f)))
-
--- A read of the file failed between two moments, and of no file of another name.
-pub record FailsToRead (before after : FilesThen) (file : List ℕ) : Type 0 where
-  pub failed : ReadFailed before after file
-  pub only : ChangesReads file before.counts after.counts
-
 -- Why `build` over these files gives an answer: each answer with what has to be so, and with what the files hold then. The
 -- five files are read and their texts built, and then the four outputs are written; what comes later is answered only where
 -- nothing earlier is refused. Where it is built, the solver was asked.
 abbrev pub Builds : SolverThen → SolverThen → FilesThen → FilesThen → BuildFiles → Answer → Type 0
 Builds solver solver' before after f (ReadFault file) =
-    IsKept before after × ((place : ℕ) × IsFirstUnread before.known f file place × FailsToRead before after file)
+    IsKept before after × ((place : ℕ) × IsFirstUnread before.known (files_read f) file place × FailsToRead before after file)
 Builds solver solver' before after f (TooLong file) =
     IsKept before after × NoneFailed before after
-    × ((place : ℕ) × IsFirstUnread before.known f file place × IsTooLong before.known file)
+    × ((place : ℕ) × IsFirstUnread before.known (files_read f) file place × IsTooLong before.known file)
 Builds solver solver' before after f (Refused file place kind) = RefusesFiles before after f (Refused file place kind)
 Builds solver solver' before after f (NoGrid words) = RefusesFiles before after f (NoGrid words)
 Builds solver solver' before after f (Range quantity at number) =
@@ -106,6 +95,9 @@ Builds solver solver' before after f Want =
 Builds solver solver' before after f Usage = ⊥
 Builds solver solver' before after f (PadConflict node first second) = ⊥
 Builds solver solver' before after f Generated = ⊥
+Builds solver solver' before after f (FloatingCapacitor node) = ⊥
+Builds solver solver' before after f (TooManySteps number) = ⊥
+Builds solver solver' before after f (Stepped nodes steps) = ⊥
 Builds solver solver' before after f (Solved nodes resistors sweeps) = ⊥
 Builds solver solver' before after f (Certified nodes) = ⊥
 Builds solver solver' before after f (NotCertified node side found) = ⊥

@@ -20,9 +20,11 @@ use Rattle.pdn_signoff.specs.Check.{FilesThen, NoneFailed, Answers}
 use Rattle.pdn_signoff.specs.Solve.{SolverThen, IsKept, HoldsBoth, Solves}
 use Rattle.pdn_signoff.specs.Generate.{Generates}
 use Rattle.pdn_signoff.specs.Build.{Builds}
-use Rattle.pdn_signoff.specs.Words.{IsCheck, IsSolve, IsGenerate, IsBuild, IsUsage}
+use Rattle.pdn_signoff.specs.Step.{StepsBy}
+use Rattle.pdn_signoff.specs.Words.{IsCheck, IsSolve, IsGenerate, IsBuild, IsStep, IsUsage}
 use Rattle.pdn_signoff.specs.declared.build_files.BuildFiles.{BuildFiles}
 use Rattle.pdn_signoff.specs.declared.design_files.DesignFiles.{DesignFiles}
+use Rattle.pdn_signoff.specs.declared.step_files.StepFiles.{StepFiles}
 
 -- What is known of a sink at a moment: the bytes written, if they are known, and the count of the calls that failed.
 pub record SinkThen : Type 0 where
@@ -40,7 +42,8 @@ IsCause words solver solver' before after answer =
     × IsSolve words netlist certificate report × Solves solver solver' before after netlist certificate report answer)
     ⊎ (((number : ℕ) × (side : ℕ) × (files : DesignFiles)
     × IsGenerate words number side files × Generates before after number side files answer)
-    ⊎ ((files : BuildFiles) × IsBuild words files × Builds solver solver' before after files answer))))
+    ⊎ (((files : BuildFiles) × IsBuild words files × Builds solver solver' before after files answer)
+    ⊎ ((files : StepFiles) × IsStep words files × StepsBy solver solver' before after files answer)))))
 
 -- None of the counts stands at its last value, where a count that stays counts as risen.
 pub record CanRise (counts : FaultCounts) : Type 0 where

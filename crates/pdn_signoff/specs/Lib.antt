@@ -1,8 +1,11 @@
+pub mod Inputs
 pub mod Check
 pub mod Solve
 pub mod Outputs
 pub mod Generate
 pub mod Build
+pub mod Runs
+pub mod Step
 pub mod Command
 pub mod Words
 pub mod inside

@@ -1,9 +1,10 @@
--- The words that are run: those of `build`, `solve`, `check` and `generate`.
+-- The words that are run: those of `build`, `solve`, `check`, `generate` and `step`.
 use Rattle.std.specs.Prelude.{ℕ, List}
-use Rattle.command_words.specs.declared.command.Command.TheVariants.{Build, Check, Solve, Generate}
+use Rattle.command_words.specs.declared.command.Command.TheVariants.{Build, Check, Solve, Generate, Step}
 use Rattle.command_words.specs.Words.{IsCommand}
 use Rattle.pdn_signoff.specs.declared.build_files.BuildFiles.{BuildFiles}
 use Rattle.pdn_signoff.specs.declared.design_files.DesignFiles.{DesignFiles}
+use Rattle.pdn_signoff.specs.declared.step_files.StepFiles.{StepFiles}
 
 -- The words are those of `check` over these two files.
 abbrev pub IsCheck : List (List ℕ) → (netlist certificate : List ℕ) → Type 0
@@ -23,6 +24,10 @@ abbrev pub IsBuild : List (List ℕ) → BuildFiles → Type 0
 IsBuild words f =
     IsCommand words (Build f.lef f.cells f.def f.pdn f.bias f.out_def f.netlist f.certificate f.report)
 
+-- The words are those of `step` over these four files, of which the last two are written, with this length and number of steps.
+abbrev pub IsStep : List (List ℕ) → StepFiles → Type 0
+IsStep words f = IsCommand words (Step f.netlist f.waves f.time f.steps f.certificate f.report)
+
 -- The words are not those of `solve`.
 abbrev pub IsNotSolve : List (List ℕ) → Type 0
 IsNotSolve words = (netlist certificate report : List ℕ) → ¬ IsSolve words netlist certificate report
@@ -35,12 +40,16 @@ IsNotGenerate words = (number side : ℕ) (files : DesignFiles) → ¬ IsGenerat
 abbrev pub IsNotBuild : List (List ℕ) → Type 0
 IsNotBuild words = (files : BuildFiles) → ¬ IsBuild words files
 
+-- The words are not those of `step`.
+abbrev pub IsNotStep : List (List ℕ) → Type 0
+IsNotStep words = (files : StepFiles) → ¬ IsStep words files
+
 -- The words are those of no command that writes files.
 abbrev pub WriteNothing : List (List ℕ) → Type 0
-WriteNothing words = IsNotSolve words × IsNotGenerate words × IsNotBuild words
+WriteNothing words = IsNotSolve words × IsNotGenerate words × IsNotBuild words × IsNotStep words
 
 -- The words are those of none of these, so of no command.
 abbrev pub IsUsage : List (List ℕ) → Type 0
 IsUsage words =
     ((netlist certificate : List ℕ) → ¬ IsCheck words netlist certificate) × IsNotSolve words × IsNotGenerate words
-    × IsNotBuild words
+    × IsNotBuild words × IsNotStep words

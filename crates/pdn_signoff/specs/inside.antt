@@ -2,3 +2,4 @@ pub mod Check
 pub mod Solve
 pub mod Generate
 pub mod Build
+pub mod Step

@@ -21,7 +21,10 @@ ghost use Rattle.pdn_signoff.specs.Generate.{file_names, design_texts};
 ghost use Rattle.building.specs.Inputs.{FiveTexts};
 ghost use Rattle.pdn_signoff.specs.declared.build_files.BuildFiles.{BuildFiles as BuildNames};
 ghost use Rattle.pdn_signoff.specs.Build.{files_written, LeavesBuilt, AreAccepted, AreBuiltAlike};
-ghost use Rattle.pdn_signoff.specs.Words.{IsCheck, IsSolve, IsGenerate, IsBuild, IsNotSolve, IsNotBuild, WriteNothing, IsUsage};
+ghost use Rattle.stepping.specs.Inputs.{TwoTexts};
+ghost use Rattle.pdn_signoff.specs.declared.step_files.StepFiles.{StepFiles as StepNames};
+ghost use Rattle.pdn_signoff.specs.Step.{step_files_written, LeavesStepped, AreStepsAccepted, AreSteppedAlike};
+ghost use Rattle.pdn_signoff.specs.Words.{IsCheck, IsSolve, IsGenerate, IsBuild, IsStep, IsNotSolve, IsNotBuild, IsNotStep, WriteNothing, IsUsage};
 
 use crate::build::build;
 use crate::build_files::BuildFiles;
@@ -29,15 +32,19 @@ use crate::check::check;
 use crate::design_files::DesignFiles;
 use crate::generate::generate;
 use crate::solve::solve;
+use crate::step::step;
+use crate::step_files::StepFiles;
 use answers::Answer;
 use bound_check::no_failing_test;
 use command_words::{Command, WordsError, read, words_have_one_command};
 use grid_net::Solver;
 use judging::{answers_to_texts, texts_are_judged_once};
+use number_place::values_fit_their_places;
 use one_design::texts_have_one_design;
 use outside::{Argv, Files, Sink, WriteError, send};
 use solving::netlists_are_solved_once;
 use std::alloc::Global;
+use stepping::netlists_are_stepped_alike;
 
 /// The exit status where the line of the answer could not be written.
 const UNWRITTEN: u8 = 3;
@@ -54,7 +61,9 @@ const WANT: u8 = 10;
 /// That of `generate` is: the words, the texts are made, the five files are written in the order technology, cells, design,
 /// script, bias file. That of `build` is: the words, the five files are read, their texts, the grid is drawn, its network is
 /// extracted, the supply is tested, the network is certified, the four files are written in the order DEF, netlist,
-/// certificate, report. The line comes last. What comes later is answered only where nothing earlier is refused. `check`
+/// certificate, report. That of `step` is: the words, the netlist and the waves are read, the netlist's text, its shorts are merged, the text of
+/// the waves, capacitors that float, the number of steps, the supply, the steps are certified one after the other, the
+/// certificate is written, the report is written. The line comes last. What comes later is answered only where nothing earlier is refused. `check`
 /// judges a netlist of which some node has no supply as any other.
 ///
 /// | Status | Line | When |
@@ -62,17 +71,20 @@ const WANT: u8 = 10;
 /// | 0, 1 | `built <p> pieces <s> stacks ..` | `build`: the four outputs are written; 1 where some verdict is UNSAFE or OPEN |
 /// | 0 | `certified <n> nodes` | `check`: the certificate holds on the merged netlist, of n groups |
 /// | 0 | `solved <n> nodes <r> resistors <k> sweeps` | `solve`: certificate and report are written, of n groups |
+/// | 0 | `stepped <n> nodes <m> steps` | `step`: certificate and report are written, of n groups and of m steps after step 0 |
 /// | 0 | `generated` | `generate`: the five files hold the texts of the design |
 /// | 2 | `pdn: Usage` | the words are those of no command |
 /// | 3 | `pdn: ReadFault <file>` | the file could not be read |
-/// | 3 | `pdn: WriteFault <file>` | `build`, `solve` and `generate`: the file could not be written |
+/// | 3 | `pdn: WriteFault <file>` | `build`, `solve`, `step` and `generate`: the file could not be written |
 /// | 3 | none, or a part of it | the line could not be written |
 /// | 4 | `pdn: TooLong <file>` | the file has more than 2^28 bytes |
 /// | 4 | `pdn: <file>:<line>:<word>: <Kind>` | its text is refused at this word; after `Number` stands why |
 /// | 5 | `pdn: <Variant> ..` | `build`: the script draws no grid, or no network is extracted from it |
-/// | 6 | `pdn: Range <quantity> <at> <number>` | a quantity of the netlist passes its limit |
+/// | 6 | `pdn: Range <quantity> <at> <number>` | a quantity of the netlist passes its limit, or in `step` one of the network of a step |
+/// | 6 | `pdn: Range Steps 0 <number>` | `step`: so many steps times nodes, more than 5·10^6 |
+/// | 6 | `pdn: FloatingCapacitor <node>` | `step`: a capacitor that is not 0 joins two groups of which none is a pad; the earlier group of the first such |
 /// | 6 | `pdn: PadConflict <node> <first> <second>` | two pads of one node, or of one group, differ |
-/// | 7 | `pdn: Unsupplied <node>` | `build` and `solve`: no chain of resistors joins the node to a pad; the first such node |
+/// | 7 | `pdn: Unsupplied <node>` | `build`, `solve` and `step`: no chain of resistors joins the node to a pad; the first such node |
 /// | 9 | `pdn: NotCertified <node> <side> <found>` | `check`: the certificate fails, first by this test |
 /// | 10 | `pdn: Want`, or a part of a line | memory ran out |
 pub fn run<F: Files, O: Sink, V: Solver>(
@@ -93,7 +105,7 @@ pub fn run<F: Files, O: Sink, V: Solver>(
         (record { known = O.known out.old; faults = O.faults out.old })
         (record { known = O.known out.new; faults = O.faults out.new }) answer }
 
-    // No file changes but the outputs of `build`, `solve` and `generate`.
+    // No file changes but the outputs of `build`, `solve`, `step` and `generate`.
     ensures kept { WriteNothing words.now → F.known files.new ≡ F.known files.old }
     ensures others { (netlist certificate report : List ℕ) → IsSolve words.now netlist certificate report
         → WhereKnown (ChangesOnly certificate report) (F.known files.old) (F.known files.new) }
@@ -101,6 +113,8 @@ pub fn run<F: Files, O: Sink, V: Solver>(
         → WhereKnown (ChangesAmong (file_names names)) (F.known files.old) (F.known files.new) }
     ensures outputs { (names : BuildNames) → IsBuild words.now names
         → WhereKnown (ChangesAmong (files_written names)) (F.known files.old) (F.known files.new) }
+    ensures step_outputs { (names : StepNames) → IsStep words.now names
+        → WhereKnown (ChangesAmong (step_files_written names)) (F.known files.old) (F.known files.new) }
 
     // A run ends with 3 or 10, or no call on the files or the sink failed.
     ensures calm { result ≢ 3 → result ≢ 10
@@ -187,11 +201,29 @@ pub fn run<F: Files, O: Sink, V: Solver>(
         → IsBuild words.now names → AreAccepted held names texts
         → ¬ Rose (F.counts files.old).faults (F.counts files.new).faults → ¬ Rose (O.faults out.old) (O.faults out.new)
         → (result ≡ 0) ⊎ ((result ≡ 1) ⊎ (result ≡ 10)) }
+
+    // After the status 0 of `step` its two outputs hold the texts of lists for each step that are a certificate of all steps of the
+    // merged netlist with the changes of its waves. For every solution of Ohm's and Kirchhoff's laws and of the backward Euler
+    // rule over the steps, for every load within its range at each step and over any common denominator, each node's voltage at
+    // each step lies within the interval that the report holds for it, where it is known what the files hold.
+    ensures stepped { (names : StepNames) → IsStep words.now names → result ≡ 0
+        → WhereKnown (LeavesStepped names) (F.known files.old) (F.known files.new) }
+
+    // Then the solver was asked.
+    ensures step_asked { (names : StepNames) → IsStep words.now names → result ≡ 0
+        → Rose (V.proposals solver.old) (V.proposals solver.new) }
+
+    // Texts that nothing refuses are stepped, where no call fails and memory lasts.
+    ensures step_completed { (held : Holdings) (names : StepNames) (texts : TwoTexts) → F.known files.old ≡ Some held
+        → IsStep words.now names → AreStepsAccepted held names texts
+        → ¬ Rose (F.counts files.old).faults (F.counts files.new).faults → ¬ Rose (O.faults out.old) (O.faults out.new)
+        → (result ≡ 0) ⊎ (result ≡ 10) }
 {
     no_failing_test();
     answers_to_texts();
     texts_are_judged_once();
     netlists_are_solved_once();
+    netlists_are_stepped_alike();
     words_have_one_command();
     run_command(alloc, words, files, out, solver)
 }
@@ -257,6 +289,7 @@ fn carry_out<F: Files, V: Solver>(
     ensures told { V.told solver.new ≡ V.told solver.old }
 {
     words_have_one_command();
+    values_fit_their_places();
     match command {
         Command::Check {
             netlist,
@@ -316,6 +349,24 @@ fn carry_out<F: Files, V: Solver>(
             };
             build(alloc, files, &names, solver)
         }
+        Command::Step {
+            netlist,
+            waves,
+            time,
+            steps,
+            certificate,
+            report,
+        } => {
+            let names = StepFiles {
+                netlist,
+                waves,
+                time,
+                steps,
+                certificate,
+                report,
+            };
+            step(alloc, files, &names, solver)
+        }
     }
 }
 
@@ -348,11 +399,12 @@ fn print<O: Sink>(out: &mut O, line: &[u8], status: u8) -> u8
 }
 
 /// Where it is known what the files hold and no count stands at its last value, one answer alone, want of memory aside,
-/// has its cause: so each of them comes exactly where its cause holds. Of `solve` this leaves open the number of sweeps, and of
-/// `build` sweeps and verdicts, which another tight certificate of the same network may change.
+/// has its cause: so each of them comes exactly where its cause holds. Of `solve` this leaves open the number of sweeps, of
+/// `build` sweeps and verdicts, which another tight certificate of the same network may change, and of `step` whether a limit is passed
+/// at some step, and which, over the bounds of the steps before, which are tight and not single.
 pub fn one_answer_has_its_cause()
     ensures one { (words : List (List ℕ)) (solver solver' : SolverThen) (before after : FilesThen) (held : Holdings)
-        (a b : Told) → before.known ≡ Some held → CanRise after.counts → IsNotSolve words → IsNotBuild words
+        (a b : Told) → before.known ≡ Some held → CanRise after.counts → IsNotSolve words → IsNotBuild words → IsNotStep words
         → IsCause words solver solver' before after a → IsCause words solver solver' before after b
         → a ≢ Want → b ≢ Want → a ≡ b }
     ensures solved { (words : List (List ℕ)) (solver solver' : SolverThen) (before after : FilesThen) (held : Holdings)
@@ -364,9 +416,14 @@ pub fn one_answer_has_its_cause()
         (names : BuildNames) (a b : Told) → before.known ≡ Some held → CanRise after.counts → IsBuild words names
         → IsCause words solver solver' before after a → IsCause words solver solver' before after b
         → a ≢ Want → b ≢ Want → AreBuiltAlike a b }
+    ensures stepped { (words : List (List ℕ)) (solver solver' : SolverThen) (before after : FilesThen) (held : Holdings)
+        (names : StepNames) (a b : Told) → before.known ≡ Some held → CanRise after.counts → IsStep words names
+        → IsCause words solver solver' before after a → IsCause words solver solver' before after b
+        → a ≢ Want → b ≢ Want → AreSteppedAlike before names a b }
 {
     texts_are_judged_once();
     netlists_are_solved_once();
+    netlists_are_stepped_alike();
     texts_have_one_design();
     words_have_one_command();
 }

@@ -11,18 +11,10 @@ mod faults;
 mod generate;
 mod outputs;
 mod solve;
+mod step;
+mod step_files;
 
 pub use build_files::BuildFiles;
 pub use command::{one_answer_has_its_cause, run};
 pub use design_files::DesignFiles;
-
-#[cfg(test)]
-mod build_tests;
-#[cfg(test)]
-mod build_texts;
-#[cfg(test)]
-mod generate_tests;
-#[cfg(test)]
-mod solve_tests;
-#[cfg(test)]
-mod tests;
+pub use step_files::StepFiles;

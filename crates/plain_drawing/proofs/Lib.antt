@@ -1,4 +1,3 @@
 mod Added
 mod Least
 mod Sited
-mod Tested

@@ -2,4 +2,3 @@
 pub mod Adding
 pub mod Least
 pub mod Sites
-pub mod Tested

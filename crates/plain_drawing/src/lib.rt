@@ -8,11 +8,7 @@ mod layers;
 mod metal;
 mod order;
 mod same;
-#[cfg(test)]
-mod site_tests;
 mod sites;
-#[cfg(test)]
-mod tests;
 mod touches;
 
 pub use sites::sites_by_pairs;

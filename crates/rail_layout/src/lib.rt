@@ -4,8 +4,6 @@
 mod drawing;
 mod row;
 mod rule;
-#[cfg(test)]
-mod tests;
 
 pub use drawing::rails;
 pub use row::RowBox;

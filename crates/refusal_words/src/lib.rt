@@ -11,6 +11,3 @@ mod name;
 
 pub use drawing::draw_words;
 pub use extraction::extract_words;
-
-#[cfg(test)]
-mod tests;

@@ -3,8 +3,6 @@
 
 mod drawing;
 mod rule;
-#[cfg(test)]
-mod tests;
 
 pub use drawing::rings;
 pub use rule::RingRule;

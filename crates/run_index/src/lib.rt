@@ -5,8 +5,6 @@ mod bounds;
 mod entry;
 mod index;
 mod laws;
-#[cfg(test)]
-mod tests;
 mod tree;
 
 pub use entry::Entry;

@@ -20,6 +20,3 @@ pub use number::{COUNT_LIMIT, LENGTH_LIMIT, Quantity, number_in, numbers_in};
 pub use option::{ScriptOption, option_named};
 pub use table::{Counts, Need, Row, ValueForm, form_of, need_of, options_of};
 pub use value::value_refused;
-
-#[cfg(test)]
-mod tests;

@@ -4,12 +4,10 @@
 //! network mean for the nodes as they were written stands in the laws of `group_net`.
 #![tactic(auto)]
 
+mod caps;
 mod laws;
 mod merged;
 mod names;
 
 pub use laws::merged_names;
 pub use merged::{MergeError, Merged, merge};
-
-#[cfg(test)]
-mod tests;

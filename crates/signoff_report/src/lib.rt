@@ -18,6 +18,3 @@ pub use judging::{branch_verdict, net_verdict};
 pub use laws::verdicts_hold;
 pub use records::{Limits, NetLimit, no_limits};
 pub use text::report_text;
-
-#[cfg(test)]
-mod tests;

@@ -46,7 +46,7 @@ module _ (text : List ℕ) (named : Named) (merged : Merged) (laws : AreTextLaws
   merge = gives.network.merge
 
   is_netlist : IsNetlist named
-  is_netlist = record { one_name_a_node = gives.keeps.one_name_per_node; shorts_are_nodes = gives.keeps.shorts_are_nodes }
+  is_netlist = record { one_name_a_node = gives.keeps.one_name_per_node; shorts_are_nodes = gives.keeps.shorts_are_nodes; ends_among_nodes = gives.keeps.ends_among_nodes }
 
   as_many : c.net.nodes ≡ length merged.names
   as_many = subst (λ (n : Network). n.nodes ≡ length merged.names) (sym same) (sym (laws.one_a_group named merged merge))

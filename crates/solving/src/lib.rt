@@ -11,6 +11,3 @@ mod signed;
 pub use laws::netlists_are_solved_once;
 pub use sign::{sign_off, unsupplied};
 pub use signed::Signed;
-
-#[cfg(test)]
-mod tests;

@@ -13,8 +13,8 @@ use Rattle.spice_cards.specs.declared.sort.Sort.{Sort}
 use Rattle.spice_cards.specs.declared.sort.Sort.TheVariants as sorts
 use Rattle.spice_cards.specs.Sort.{sort_of}
 use Rattle.spice_cards.specs.Card.{is_dc_first, without_dc, value_at}
-use Rattle.spice_cards.specs.Number.{ohms, volts, amperes}
-use Rattle.spice_cards.specs.Fault.{refused_by, source_by, low_by, high_by, AnswerFault, EndFault, ResistorFault, SourceFault, LoadFault, CardFault, fault}
+use Rattle.spice_cards.specs.Number.{ohms, volts, amperes, farads}
+use Rattle.spice_cards.specs.Fault.{refused_by, source_by, low_by, high_by, AnswerFault, EndFault, ResistorFault, SourceFault, LoadFault, CapacitorFault, CardFault, fault}
 
 -- ## words by their number
 
@@ -71,6 +71,10 @@ load_last at (value ∷ range ∷ low ∷ []) found h = let e : found.at ≡ at 
 load_last at (value ∷ range ∷ low ∷ high ∷ []) found h = let e : found.at ≡ at + 3 = h.0 in omega arith
 load_last at words found h = absurd h
 
+capacitor_last : (words : List Token) (found : Found CardsKind) → CapacitorFault words found → found.at + 1 ≡ 3 + length words
+capacitor_last (value ∷ []) found h = ap (λ z. z + 1) h.0
+capacitor_last words found h = absurd h
+
 counts_by : (first : Bool) (word : Token) (words : List Token) → (if first then 4 else 3) + length (if first then words else word ∷ words) ≡ 3 + length (word ∷ words)
 counts_by true word words = omega arith
 counts_by false word words = refl
@@ -83,6 +87,7 @@ card_last : (letter : Sort) (a b : List ℕ) (words : List Token) (found : Found
 card_last sorts.Resistor a b words found h = resistor_last words found h
 card_last sorts.Source a b words found h = source_last a b (value_at words) (without_dc words) found h ∙ dc_counts words
 card_last sorts.Load a b words found h = load_last (value_at words) (without_dc words) found h ∙ dc_counts words
+card_last sorts.Capacitor a b words found h = capacitor_last words found h
 card_last letter a b words found h = absurd h
 
 pub last : (units : List (List Token)) (part : List Token) (found : Found CardsKind) → fault units part found → found.at + 1 ≡ length part
@@ -120,10 +125,15 @@ load_one one at (value ∷ range ∷ low ∷ []) x y h i = end_one one low_by va
 load_one one at (value ∷ range ∷ low ∷ high ∷ []) x y h i = end_one one high_by value.text high.text x.kind y.kind h.1 i.1
 load_one one at words x y h i = absurd h
 
+capacitor_one : HasOne → (words : List Token) (x y : Found CardsKind) → CapacitorFault words x → CapacitorFault words y → y.kind ≡ x.kind
+capacitor_one one (value ∷ []) x y h i = answer_one one farads refused_by value.text x.kind y.kind h.1 i.1
+capacitor_one one words x y h i = absurd h
+
 card_one : HasOne → (letter : Sort) (a b : List ℕ) (words : List Token) (x y : Found CardsKind) → CardFault letter a b words x → CardFault letter a b words y → y.kind ≡ x.kind
 card_one one sorts.Resistor a b words x y h i = resistor_one one words x y h i
 card_one one sorts.Source a b words x y h i = source_one one a b (value_at words) (without_dc words) x y h i
 card_one one sorts.Load a b words x y h i = load_one one (value_at words) (without_dc words) x y h i
+card_one one sorts.Capacitor a b words x y h i = capacitor_one one words x y h i
 card_one one letter a b words x y h i = absurd h
 
 pub one_kind : HasOne → (units : List (List Token)) (part : List Token) (x y : Found CardsKind) → fault units part x → fault units part y → y.kind ≡ x.kind

@@ -1,15 +1,16 @@
 -- One more unit.
 use Rattle.std.proofs.Common.{◌≡◌, ◌↔◌, ℕ, List, [], ◌∷◌, ◌++◌, Contains, Option, None, Some, inl, inr, refl, sym, ◌∙◌, ap, subst}
-use Rattle.std.specs.Prelude.{flat_map}
+use Rattle.std.specs.Prelude.{flat_map, filter_map}
 use Rattle.std.proofs.lemmas.List.Elements.{Contains-append_cases, Contains-append_left, Contains-append_right}
 use Rattle.entry_list.specs.InTurn.{InTurn}
 use Rattle.reading.specs.Word.{Token}
+use Rattle.spice_cards.specs.declared.record.Capacitor.{Capacitor as ReadCapacitor}
 use Rattle.spice_cards.specs.declared.record.Cards.{Cards}
 use Rattle.spice_cards.specs.declared.section.Section.{Section}
-use Rattle.spice_cards.specs.Card.{Card, card_of, cards_of}
+use Rattle.spice_cards.specs.Card.{Card, CapacitorCard, card_of, cards_of, capacitor_in}
 use Rattle.spice_cards.specs.Section.{section_from, section_after}
-use Rattle.spice_cards.specs.Record.{Part, SaysCard, SaysCards, nodes_of}
-use Rattle.spice_cards.specs.inside.Held.{Adds, AddsUnit, TakesNames}
+use Rattle.spice_cards.specs.Record.{Part, SaysCard, SaysCapacitor, SaysCards, nodes_of}
+use Rattle.spice_cards.specs.inside.Held.{Adds, AddsCapacitor, AddsUnit, TakesNames}
 use Rattle.spice_cards.proofs.Lists.{all-grow, all-have, turn-map, turn-one, filtered-some, filtered-none, flat-one}
 use Rattle.spice_cards.proofs.Says.{says-more}
 
@@ -37,6 +38,16 @@ nodes-more cards card old new x taken same =
       ])),
     )
 
+-- The capacitors of one more card.
+caps-more : (cards : List Card) (card : Card) (found : Option CapacitorCard) (old new : List ReadCapacitor) → capacitor_in card ≡ found →
+    InTurn SaysCapacitor (filter_map capacitor_in cards) old → AddsCapacitor found old new → InTurn SaysCapacitor (filter_map capacitor_in (cards ++ card ∷ [])) new
+caps-more cards card None old new e h adds =
+    subst (λ z. InTurn SaysCapacitor z new) (sym (filtered-none capacitor_in cards card e)) (subst (λ z. InTurn SaysCapacitor (filter_map capacitor_in cards) z) (sym adds) h)
+caps-more cards card (Some found) old new e h adds =
+    subst (λ z. InTurn SaysCapacitor z new) (sym (filtered-some capacitor_in cards card found e))
+    (subst (λ z. InTurn SaysCapacitor (filter_map capacitor_in cards ++ found ∷ []) z) (sym adds.2)
+    (turn-one SaysCapacitor (filter_map capacitor_in cards) old found adds.0 h adds.1))
+
 -- A unit that is a card.
 card-more : (units : List (List Token)) (unit : List Token) (card : Card) (old new : Cards) → card_of unit ≡ Some card → SaysCards units old → Adds card old new →
     SaysCards (units ++ unit ∷ []) new
@@ -53,6 +64,8 @@ card-more units unit card old new is h adds =
       shorts = listed (λ part. part.shorts) h.parts adds.part _ _ h.shorts adds.lists.shorts;
       pads = listed (λ part. part.pads) h.parts adds.part _ _ h.pads adds.lists.pads;
       loads = listed (λ part. part.loads) h.parts adds.part _ _ h.loads adds.lists.loads;
+      caps = subst (λ z. InTurn SaysCapacitor (filter_map capacitor_in z) new.caps.items) (sym cards)
+          (caps-more (cards_of units) card (capacitor_in card) old.caps.items new.caps.items refl h.caps adds.caps);
     }
 
 -- A unit that is none.
@@ -67,6 +80,7 @@ none-more units unit old is h =
       shorts = h.shorts;
       pads = h.pads;
       loads = h.loads;
+      caps = subst (λ z. InTurn SaysCapacitor (filter_map capacitor_in z) old.caps.items) (sym cards) h.caps;
     }
 
 unit-by : (units : List (List Token)) (unit : List Token) (found : Option Card) (old new : Cards) → card_of unit ≡ found → SaysCards units old → AddsUnit found old new →

@@ -3,7 +3,7 @@ use Rattle.std.proofs.Common.{◌≡◌, ℕ, Bool, true, List, [], codes, refl,
 use Rattle.spice_cards.specs.declared.section.Section.{Section}
 use Rattle.spice_cards.specs.declared.section.Section.TheVariants.{Cards, Passing, Ended}
 use Rattle.spice_cards.specs.declared.sort.Sort.{Sort}
-use Rattle.spice_cards.specs.declared.sort.Sort.TheVariants.{Resistor, Source, Load, Dc, Mark, Dot, End, Other, CardEnd, Range, Stray, TextEnd}
+use Rattle.spice_cards.specs.declared.sort.Sort.TheVariants.{Resistor, Source, Load, Capacitor, Dc, Mark, Dot, End, Other, CardEnd, Range, Stray, TextEnd}
 use Rattle.spice_cards.specs.Sort.{all_sorts, sort_of, sort_with}
 use Rattle.spice_cards.specs.Section.{section_of}
 use Rattle.spice_cards.specs.Rule.{pattern}
@@ -23,6 +23,7 @@ unfolding word
 sample Resistor = (word (codes "R") forms.Bare, refl)
 sample Source = (word (codes "V") forms.Bare, refl)
 sample Load = (word (codes "I") forms.Bare, refl)
+sample Capacitor = (word (codes "C") forms.Bare, refl)
 sample Dc = (word (codes "DC") forms.Bare, refl)
 sample Mark = (word (codes ";") forms.Bare, refl)
 sample Dot = (word (codes ".op") forms.Bare, refl)

@@ -8,3 +8,4 @@ pub mod Taking
 pub mod Reading
 pub mod Numbers
 pub mod NameLemmas
+pub mod Capacitances

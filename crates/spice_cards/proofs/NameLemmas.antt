@@ -22,7 +22,7 @@ use Rattle.spice_cards.specs.declared.sort.Sort.TheVariants as sorts
 use Rattle.spice_cards.specs.Sort.{the, sort_of, sort_with, sort_of_end}
 use Rattle.spice_cards.specs.Rule.{is_name, is_single, is_passed, name, number, end, value, dc, load_end, pattern}
 use Rattle.spice_cards.specs.Section.{section_of}
-use Rattle.spice_cards.specs.Card.{Card, Resistor, Source, Load, is_ground, without_dc, card_with, resistor_with, source_with, load_with, card_of, cards_of}
+use Rattle.spice_cards.specs.Card.{Card, Resistor, Source, Load, Capacitor, is_ground, without_dc, card_with, resistor_with, source_with, load_with, capacitor_with, card_of, cards_of}
 use Rattle.spice_cards.specs.Record.{nodes_of, source_nodes, but_ground}
 use Rattle.spice_cards.specs.Format.{format, IsNetlist}
 
@@ -231,10 +231,17 @@ load_with_words a b (v ∷ s ∷ t ∷ r ∷ q ∷ []) card h k e =
     subst (λ z. AreWords (nodes_of z)) (some_is (Load a b v.text (Some (record { low = t.text; high = r.text }))) card e) (load_words a b h k)
 load_with_words a b (v ∷ s ∷ t ∷ r ∷ q ∷ p ∷ o) card h k e = absurd (none_there card e)
 
+capacitor_with_words : (a b : List ℕ) (words : List Token) (card : Card) → capacitor_with a b words ≡ Some card → AreWords (nodes_of card)
+capacitor_with_words a b [] card e = absurd (none_there card e)
+capacitor_with_words a b (v ∷ []) card e = absurd (none_there card e)
+capacitor_with_words a b (v ∷ s ∷ []) card e = subst (λ z. AreWords (nodes_of z)) (some_is (Capacitor a b v.text) card e) tt
+capacitor_with_words a b (v ∷ s ∷ t ∷ r) card e = absurd (none_there card e)
+
 card_words : (sort : Sort) (a b : List ℕ) (words : List Token) (card : Card) → IsBare Lines true a [] → IsBare Lines true b [] → card_with sort a b words ≡ Some card → AreWords (nodes_of card)
 card_words sorts.Resistor a b words card h k e = resistor_words a b words card h k e
 card_words sorts.Source a b words card h k e = source_with_words a b (without_dc words) card h k e
 card_words sorts.Load a b words card h k e = load_with_words a b (without_dc words) card h k e
+card_words sorts.Capacitor a b words card h k e = capacitor_with_words a b words card e
 card_words sort a b words card h k e = absurd (none_there card e)
 
 two_words : (unit : List Token) (card : Card) → NamesTwo unit → AllByRecursion Fits unit → card_of unit ≡ Some card → AreWords (nodes_of card)
@@ -252,7 +259,10 @@ unit_words sections.Cards unit card m h e = elim m [
     | inl s ↦ two_words unit card (names_two (the sorts.Source) (Or (Then value end) (Then dc (Then number end))) unit s) h e
     | inr m ↦ elim m [
       | inl l ↦ two_words unit card (names_two (the sorts.Load) (Or (Then value load_end) (Then dc (Then number load_end))) unit l) h e
-      | inr one ↦ absurd (one_word is_single unit card one e)
+      | inr m ↦ elim m [
+        | inl c ↦ two_words unit card (names_two (the sorts.Capacitor) (Then number end) unit c) h e
+        | inr one ↦ absurd (one_word is_single unit card one e)
+      ]
     ]
   ]
 ]

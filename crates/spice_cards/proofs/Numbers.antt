@@ -1,5 +1,5 @@
 -- The numbers of the cards are those of names.
-use Rattle.std.proofs.Common.{◌≡◌, ℕ, ◌<◌, ℤ, Bool, true, false, if◌then◌else◌, List, [], ◌∷◌, ◌++◌, All, Some, length, slice_get, sym, ap, subst}
+use Rattle.std.proofs.Common.{◌≡◌, ℕ, ◌<◌, ℤ, Bool, true, false, if◌then◌else◌, List, [], ◌∷◌, ◌++◌, All, length, sym, subst}
 use Rattle.std.specs.Prelude.{flat_map, neg_ℤ}
 use Rattle.std.proofs.lemmas.List.Elements.{All-nil, All-cons, All-append}
 use Rattle.std.proofs.lemmas.Option.{slice_get_within}
@@ -10,9 +10,9 @@ use Rattle.grid_net.specs.declared.part.Load.{Load as NetLoad}
 use Rattle.node_names.specs.Folding.{folded}
 use Rattle.reading.specs.Word.{Token}
 use Rattle.spice_cards.specs.declared.record.Cards.{Cards}
-use Rattle.spice_cards.specs.Card.{Card, Resistor, Source, Load, is_ground, cards_of}
+use Rattle.spice_cards.specs.Card.{Card, Resistor, Source, Load, Capacitor, is_ground, cards_of}
 use Rattle.spice_cards.specs.Fault.{is_zero}
-use Rattle.spice_cards.specs.Record.{HasNumber, Part, resistor_part, short_part, pad_part, load_part, SaysCard, SaysSource, LoadsNode, SaysCards, AreNumbered}
+use Rattle.spice_cards.specs.Record.{HasNumber, Part, resistor_part, short_part, pad_part, load_part, no_part, SaysCard, SaysSource, LoadsNode, SaysCards, AreNumbered}
 
 abbrev JoinsNodes : ℕ → NetResistor → Type 0
 JoinsNodes count r = (r.a < count) × (r.b < count)
@@ -65,6 +65,14 @@ load_stays count loads all = record {
   loads = all;
 }
 
+none_stays : (count : ℕ) → Stays count no_part
+none_stays count = record {
+  resistors = All-nil (JoinsNodes count);
+  shorts = All-nil (ShortsNodes count);
+  pads = All-nil (PadsNode count);
+  loads = All-nil (DrawsAtNode count);
+}
+
 either_stays : (count m n : ℕ) (v : ℤ) (zero : Bool) (part : Part) → m < count → n < count → part ≡ (if zero then short_part m n else resistor_part m n v) → Stays count part
 either_stays count m n v true part first second e = subst (Stays count) (sym e) (short_stays count m n first second)
 either_stays count m n v false part first second e = subst (Stays count) (sym e) (resistor_stays count m n v first second)
@@ -92,6 +100,7 @@ part_stays names (Load a b value range) part h =
     let s = h.5 in
     subst (Stays (length names)) (sym s.4) (load_stays (length names) (s.0 ++ s.1) (All-append (DrawsAtNode (length names)) s.0 s.1
     (node_stays (is_ground a) names a h.1 h.2 s.0 s.2) (node_stays (is_ground b) names b (neg_ℤ h.2) (neg_ℤ h.1) s.1 s.3)))
+part_stays names (Capacitor a b value) part h = subst (Stays (length names)) (sym h) (none_stays (length names))
 
 -- What each part has, all have.
 all_parts : {A : Type 0} (P : A → Type 0) (field : Part → List A) (names : List (List ℕ)) → ((part : Part) → Stays (length names) part → All P (field part)) →

@@ -10,7 +10,7 @@ use Rattle.entry_list.specs.InTurn.{InTurn}
 use Rattle.grid_net.specs.declared.part.Load.{Load as NetLoad}
 use Rattle.reading.specs.Word.{Token}
 use Rattle.spice_cards.specs.declared.record.Cards.{Cards}
-use Rattle.spice_cards.specs.Card.{Card, Resistor, Source, Load, Ends, is_ground, cards_of}
+use Rattle.spice_cards.specs.Card.{Card, Resistor, Source, Load, Capacitor, Ends, is_ground, cards_of}
 use Rattle.spice_cards.specs.Fault.{is_zero}
 use Rattle.spice_cards.specs.Record.{Part, resistor_part, short_part, SaysCard, SaysSource, SaysCards, IsRange, LoadsNode}
 
@@ -72,6 +72,7 @@ part_rises names (Load a b value range) part h =
     subst (λ z. All Rises z) (sym (ap (λ (z : Part). z.loads) s.4)) (All-append Rises s.0 s.1
     (node_rises (is_ground a) names a h.1 h.2 s.0 up s.2)
     (node_rises (is_ground b) names b (neg_ℤ h.2) (neg_ℤ h.1) s.1 (turned h.1 h.2 up) s.3))
+part_rises names (Capacitor a b value) part h = none_rise part.loads (ap (λ (z : Part). z.loads) h)
 
 parts_rise : (names : List (List ℕ)) (cards : List Card) (parts : List Part) → InTurn (SaysCard names) cards parts → All Rises (flat_map (λ part. part.loads) parts)
 parts_rise names [] [] h = All-nil Rises

@@ -1,6 +1,6 @@
 -- What a card says stays true while names are added.
 use Rattle.std.proofs.Common.{ℕ, ℤ, Bool, true, false, List}
-use Rattle.spice_cards.specs.Card.{Card, Resistor, Source, Load, is_ground}
+use Rattle.spice_cards.specs.Card.{Card, Resistor, Source, Load, Capacitor, is_ground}
 use Rattle.spice_cards.specs.Record.{Part, SaysCard, SaysSource, LoadsNode}
 use Rattle.spice_cards.proofs.Lists.{Grows}
 use Rattle.grid_net.specs.declared.part.Load.{Load as NetLoad}
@@ -24,3 +24,4 @@ says-more old new grows (Source a b value) part h = (h.0, h.1, source-more (is_g
 says-more old new grows (Load a b value range) part h =
     let s = h.5 in
     (h.0, h.1, h.2, h.3, h.4, (s.0, s.1, loads-more (is_ground a) old new a _ _ s.0 grows s.2, loads-more (is_ground b) old new b _ _ s.1 grows s.3, s.4))
+says-more old new grows (Capacitor a b value) part h = h

@@ -3,6 +3,7 @@ use Rattle.std.proofs.Common.{◌≡◌, ◌↔◌, ℕ, ◌<◌, ◌≤◌, ℤ
 use Rattle.std.specs.Prelude.{neg_ℤ, option_map}
 use Rattle.std.specs.declared.alloc.AllocError.{AllocError}
 use Rattle.std.proofs.lemmas.List.{append-nil}
+use Rattle.entry_list.specs.InTurn.{InTurn}
 use Rattle.name_table.specs.Numbering.{AreDistinct}
 use Rattle.number_place.specs.Place.{IsNumberAt}
 use Rattle.reading.specs.declared.refusal.Found.{Found}
@@ -14,7 +15,7 @@ use Rattle.spice_cards.specs.declared.record.Cards.{Cards}
 use Rattle.spice_cards.specs.Card.{Card, Source, Load, Ends, ends_in, is_ground, card_of}
 use Rattle.spice_cards.specs.Fault.{is_zero, fault}
 use Rattle.spice_cards.specs.Number.{volts, amperes}
-use Rattle.spice_cards.specs.Record.{pad_part, SaysSource, source_nodes, short_part, resistor_part, load_part, SaysCards, IsRange, but_ground, LoadsNode}
+use Rattle.spice_cards.specs.Record.{pad_part, SaysSource, source_nodes, short_part, resistor_part, load_part, SaysCapacitor, SaysCards, IsRange, but_ground, LoadsNode}
 use Rattle.spice_cards.specs.inside.Held.{Adds, AddsPad, AddsLoad, TakesNames}
 use Rattle.spice_cards.proofs.Lists.{all-grow, all-joined}
 use Rattle.spice_cards.proofs.Says.{loads-more}
@@ -35,8 +36,8 @@ two_fine units (a ∷ b ∷ c ∷ xs) found h k f = absurd (omega arith)
 
 -- ## nothing read
 
-pub empty_cards : (cards : Cards) → AreDistinct [] → cards.names ≡ [] → cards.resistors.items ≡ [] → cards.shorts.items ≡ [] → cards.pads.items ≡ [] → cards.loads.items ≡ [] → SaysCards [] cards
-empty_cards cards none names resistors shorts pads loads = record {
+pub empty_cards : (cards : Cards) → AreDistinct [] → cards.names ≡ [] → cards.resistors.items ≡ [] → cards.shorts.items ≡ [] → cards.pads.items ≡ [] → cards.loads.items ≡ [] → cards.caps.items ≡ [] → SaysCards [] cards
+empty_cards cards none names resistors shorts pads loads caps = record {
   parts = [];
   says = tt;
   distinct = subst AreDistinct (sym names) none;
@@ -45,6 +46,7 @@ empty_cards cards none names resistors shorts pads loads = record {
   shorts = shorts;
   pads = pads;
   loads = loads;
+  caps = subst (λ z. InTurn SaysCapacitor [] z) (sym caps) tt;
 }
 
 -- ## resistors
@@ -98,6 +100,7 @@ load_adds a b value range v kept low high back_low back_high old mid new (Ok x) 
     pads = k.lists.pads ∙ ap (λ z. z ++ []) h.lists.pads ∙ append-nil (old.pads.items ++ []);
     loads = k.lists.loads ∙ ap (λ z. z ++ k.loads) h.lists.loads ∙ append_assoc old.loads.items h.loads k.loads;
   };
+  caps = k.caps ∙ h.caps;
 }
 
 -- ## pads
@@ -119,4 +122,5 @@ turned_adds a b value v kept old new (Ok x) first second is same h = record {
       (subst (λ z. TakesNames old.names (source_nodes true z a b) new.names) (sym second) (new.names, h.names, refl));
   distinct = λ d. h.distinct;
   lists = h.lists;
+  caps = h.caps;
 }

@@ -14,11 +14,18 @@ pub record Ends : Type 0 where
   pub low : List ℕ
   pub high : List ℕ
 
--- A card by its letter: its two nodes, the text of its value, and of a load the range line after it, if there is one.
+-- A card by its letter: its two ends, the text of its value, and of a load the range line after it, if there is one.
 pub data Card : Type 0 where
   Resistor : List ℕ → List ℕ → List ℕ → Card
   Source : List ℕ → List ℕ → List ℕ → Card
   Load : List ℕ → List ℕ → List ℕ → Option Ends → Card
+  Capacitor : List ℕ → List ℕ → List ℕ → Card
+
+-- The card of a capacitor: its two ends and the text of its value.
+pub record CapacitorCard : Type 0 where
+  pub a : List ℕ
+  pub b : List ℕ
+  pub value : List ℕ
 
 abbrev pub ends_in : SourceEnds → Ends
 ends_in ends = record { low = ends.low.now; high = ends.high.now }
@@ -27,6 +34,7 @@ abbrev pub card_in : SourceCard → Card
 card_in (cards.Resistor a b value) = Resistor a.now b.now value.now
 card_in (cards.Source a b value) = Source a.now b.now value.now
 card_in (cards.Load a b value range) = Load a.now b.now value.now (option_map ends_in range)
+card_in (cards.Capacitor a b value) = Capacitor a.now b.now value.now
 
 -- The name `0`, against which sources and loads are given.
 abbrev pub is_ground : List ℕ → Bool
@@ -61,11 +69,16 @@ load_with a b (value ∷ range ∷ low ∷ high ∷ stop ∷ []) =
     Some (Load a b value.text (Some (record { low = low.text; high = high.text })))
 load_with a b _ = None
 
+abbrev pub capacitor_with : List ℕ → List ℕ → List Token → Option Card
+capacitor_with a b (value ∷ stop ∷ []) = Some (Capacitor a b value.text)
+capacitor_with a b _ = None
+
 -- The card of this letter.
 abbrev pub card_with : Sort → List ℕ → List ℕ → List Token → Option Card
 card_with sorts.Resistor a b words = resistor_with a b words
 card_with sorts.Source a b words = source_with a b (without_dc words)
 card_with sorts.Load a b words = load_with a b (without_dc words)
+card_with sorts.Capacitor a b words = capacitor_with a b words
 card_with _ a b words = None
 
 -- The card that a unit is, if it is one. The words of dot lines are none.
@@ -76,3 +89,12 @@ card_of _ = None
 -- The cards among units.
 abbrev pub cards_of : List (List Token) → List Card
 cards_of units = filter_map card_of units
+
+-- The capacitor that a card is, if it is one.
+abbrev pub capacitor_in : Card → Option CapacitorCard
+capacitor_in (Capacitor a b value) = Some (record { a = a; b = b; value = value })
+capacitor_in _ = None
+
+-- The capacitors among units.
+abbrev pub capacitors_of : List (List Token) → List CapacitorCard
+capacitors_of units = filter_map capacitor_in (cards_of units)

@@ -11,7 +11,7 @@ use Rattle.spice_cards.specs.declared.sort.Sort.TheVariants as sorts
 use Rattle.spice_cards.specs.Sort.{sort_of}
 use Rattle.spice_cards.specs.Section.{section_of}
 use Rattle.spice_cards.specs.Card.{is_ground, without_dc, value_at}
-use Rattle.spice_cards.specs.Number.{ohms, volts, amperes}
+use Rattle.spice_cards.specs.Number.{ohms, volts, amperes, farads}
 use Rattle.number_place.specs.declared.place.NumberPlace.{NumberPlace}
 use Rattle.number_place.specs.declared.place.Refused.{Refused}
 use Rattle.number_place.specs.declared.place.Refused.TheVariants.{Syntax, Number}
@@ -28,7 +28,7 @@ abbrev pub refused_kind : Refused → CardsKind
 refused_kind Syntax = kinds.Syntax
 refused_kind (Number error) = kinds.Number error
 
--- Why a value is refused: it is no number, one that vanishes, or one beyond its limit.
+-- Why a value is refused: it is no number, one that vanishes, one beyond its limit, or one of a sign that may not stand.
 abbrev pub refused_by : Result ℤ Refused → Option CardsKind
 refused_by (Ok value) = None
 refused_by (Err refused) = Some (refused_kind refused)
@@ -97,11 +97,17 @@ LoadFault at (value ∷ range ∷ low ∷ high ∷ []) found =
     (found.at ≡ at + 3) × EndFault high_by value.text high.text found.kind
 LoadFault at _ found = ⊥
 
+-- The same of a capacitor.
+abbrev pub CapacitorFault : List Token → Found CardsKind → Type 0
+CapacitorFault (value ∷ []) found = (found.at ≡ 3) × AnswerFault farads refused_by value.text found.kind
+CapacitorFault _ found = ⊥
+
 -- The same of a card with this letter.
 abbrev pub CardFault : Sort → List ℕ → List ℕ → List Token → Found CardsKind → Type 0
 CardFault sorts.Resistor a b words found = ResistorFault words found
 CardFault sorts.Source a b words found = SourceFault a b (value_at words) (without_dc words) found
 CardFault sorts.Load a b words found = LoadFault (value_at words) (without_dc words) found
+CardFault sorts.Capacitor a b words found = CapacitorFault words found
 CardFault _ a b words found = ⊥
 
 -- The fault that the last of a unit's words so far shows, at that word.

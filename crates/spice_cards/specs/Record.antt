@@ -8,10 +8,11 @@ use Rattle.name_table.specs.Numbering.{AreDistinct}
 use Rattle.node_names.specs.Folding.{folded}
 use Rattle.number_place.specs.Place.{IsNumberAt}
 use Rattle.reading.specs.Word.{Token}
+use Rattle.spice_cards.specs.declared.record.Capacitor.{Capacitor as ReadCapacitor}
 use Rattle.spice_cards.specs.declared.record.Cards.{Cards}
-use Rattle.spice_cards.specs.Card.{Card, Resistor, Source, Load, Ends, is_ground, cards_of}
+use Rattle.spice_cards.specs.Card.{Card, Resistor, Source, Load, Capacitor, CapacitorCard, Ends, is_ground, cards_of, capacitors_of}
 use Rattle.spice_cards.specs.Fault.{is_zero}
-use Rattle.spice_cards.specs.Number.{ohms, volts, amperes}
+use Rattle.spice_cards.specs.Number.{ohms, volts, amperes, farads}
 
 -- The node of this name has the number.
 abbrev pub HasNumber : List (List ℕ) → List ℕ → ℕ → Type 0
@@ -35,6 +36,10 @@ pad_part node value = record { resistors = []; shorts = []; pads = record { node
 
 abbrev pub load_part : List NetLoad → Part
 load_part loads = record { resistors = []; shorts = []; pads = []; loads = loads }
+
+-- Nothing that a network has.
+abbrev pub no_part : Part
+no_part = record { resistors = []; shorts = []; pads = []; loads = [] }
 
 -- `Rname a b OHMS`: a resistor, and a short where the value is 0.
 abbrev pub SaysResistor : List (List ℕ) → List ℕ → List ℕ → List ℕ → Part → Type 0
@@ -70,7 +75,7 @@ SaysLoad names a b low high part =
     (first : List NetLoad) × (second : List NetLoad) × LoadsNode (is_ground a) names a low high first
     × LoadsNode (is_ground b) names b (neg_ℤ high) (neg_ℤ low) second × (part ≡ load_part (first ++ second))
 
--- What a card says, where the nodes have these names.
+-- What a card says of the network, where the nodes have these names. A capacitor says nothing of it.
 abbrev pub SaysCard : List (List ℕ) → Card → Part → Type 0
 SaysCard names (Resistor a b value) part = SaysResistor names a b value part
 SaysCard names (Source a b value) part =
@@ -78,6 +83,7 @@ SaysCard names (Source a b value) part =
 SaysCard names (Load a b value range) part =
     (v : ℤ) × (low : ℤ) × (high : ℤ) × IsNumberAt amperes value (Ok v) × IsRange range v low high
     × SaysLoad names a b low high part
+SaysCard names (Capacitor a b value) part = part ≡ no_part
 
 -- The name, where it is not `0`.
 abbrev pub but_ground : List ℕ → List (List ℕ)
@@ -91,13 +97,21 @@ source_nodes false true a b = folded a ∷ []
 source_nodes false false a b = folded a ∷ folded b ∷ []
 
 -- The names of the nodes that a card has. `0` is a node where a resistor names it or a source stands between `0` and `0`.
+-- A capacitor makes no nodes.
 abbrev pub nodes_of : Card → List (List ℕ)
 nodes_of (Resistor a b value) = folded a ∷ folded b ∷ []
 nodes_of (Source a b value) = source_nodes (is_ground a) (is_ground b) a b
 nodes_of (Load a b value range) = but_ground a ++ but_ground b
+nodes_of (Capacitor a b value) = []
+
+-- `Cname a b FARADS`: a capacitor between two names, which are kept as they stand.
+pub record SaysCapacitor (card : CapacitorCard) (read : ReadCapacitor) : Type 0 where
+  pub a : read.a.now ≡ card.a
+  pub b : read.b.now ≡ card.b
+  pub farads : IsNumberAt farads card.value (Ok read.farads)
 
 -- What the cards among these units say, in their order: each says one part, and the lists are those of the parts, one after the other. The
--- names are those of the nodes, each once.
+-- names are those of the nodes, each once. The capacitors are those of their cards.
 pub record SaysCards (units : List (List Token)) (cards : Cards) : Type 0 where
   pub parts : List Part
   pub says : InTurn (SaysCard cards.names) (cards_of units) parts
@@ -107,6 +121,7 @@ pub record SaysCards (units : List (List Token)) (cards : Cards) : Type 0 where
   pub shorts : cards.shorts.items ≡ flat_map (λ part. part.shorts) parts
   pub pads : cards.pads.items ≡ flat_map (λ part. part.pads) parts
   pub loads : cards.loads.items ≡ flat_map (λ part. part.loads) parts
+  pub caps : InTurn SaysCapacitor (capacitors_of units) cards.caps.items
 
 -- Each number of the cards is that of a name.
 pub record AreNumbered (cards : Cards) : Type 0 where

@@ -3,7 +3,7 @@ use Rattle.std.specs.Prelude.{Bool, true, false}
 use Rattle.spice_cards.specs.declared.section.Section.{Section}
 use Rattle.spice_cards.specs.declared.section.Section.TheVariants.{Cards, Passing, Ended}
 use Rattle.spice_cards.specs.declared.sort.Sort.{Sort}
-use Rattle.spice_cards.specs.declared.sort.Sort.TheVariants.{Resistor, Source, Load, Dc, Mark, Dot, End, Other, CardEnd, Range, Stray, TextEnd}
+use Rattle.spice_cards.specs.declared.sort.Sort.TheVariants.{Resistor, Source, Load, Capacitor, Dc, Mark, Dot, End, Other, CardEnd, Range, Stray, TextEnd}
 use Rattle.spice_cards.specs.Sort.{the}
 use Rattle.reading.specs.Pattern.{Pattern, One, Then, Or}
 
@@ -65,6 +65,10 @@ load_end = Or end (Then (One (the Range)) (Then number (Then number end)))
 abbrev pub load : Pattern Sort
 load = Then (One (the Load)) (Then name (Then name (Or (Then value load_end) (Then dc (Then number load_end)))))
 
+-- `Cname a b FARADS`
+abbrev pub capacitor : Pattern Sort
+capacitor = Then (One (the Capacitor)) (Then name (Then name (Then number end)))
+
 -- The first word of a dot line that is passed over, `.end`, or the first word of any other card or dot line, which shows a fault.
 abbrev pub is_single : Sort → Bool
 is_single Dc = true
@@ -75,7 +79,7 @@ is_single Other = true
 is_single _ = false
 
 abbrev pub card : Pattern Sort
-card = Or resistor (Or source (Or load (One is_single)))
+card = Or resistor (Or source (Or load (Or capacitor (One is_single))))
 
 -- Each word of a dot line is passed over, and the line ends with its end.
 abbrev pub is_passed : Sort → Bool

@@ -5,7 +5,7 @@ use Rattle.netlist_words.specs.declared.letter.Letter.{Letter}
 use Rattle.netlist_words.specs.declared.letter.Letter.TheVariants as letters
 use Rattle.netlist_words.specs.Letter.{letter_of}
 use Rattle.spice_cards.specs.declared.sort.Sort.{Sort}
-use Rattle.spice_cards.specs.declared.sort.Sort.TheVariants.{Resistor, Source, Load, Dc, Mark, Dot, End, Other, CardEnd, Range, Stray, TextEnd}
+use Rattle.spice_cards.specs.declared.sort.Sort.TheVariants.{Resistor, Source, Load, Capacitor, Dc, Mark, Dot, End, Other, CardEnd, Range, Stray, TextEnd}
 use Rattle.reading.specs.declared.word.Form.{Form}
 use Rattle.reading.specs.declared.word.Form.TheVariants as forms
 use Rattle.reading.specs.Keyword.{keyword_or}
@@ -15,19 +15,20 @@ abbrev pub number_of : Sort → ℕ
 number_of Resistor = 0
 number_of Source = 1
 number_of Load = 2
-number_of Dc = 3
-number_of Mark = 4
-number_of Dot = 5
-number_of End = 6
-number_of Other = 7
-number_of CardEnd = 8
-number_of Range = 9
-number_of Stray = 10
-number_of TextEnd = 11
+number_of Capacitor = 3
+number_of Dc = 4
+number_of Mark = 5
+number_of Dot = 6
+number_of End = 7
+number_of Other = 8
+number_of CardEnd = 9
+number_of Range = 10
+number_of Stray = 11
+number_of TextEnd = 12
 
 abbrev pub all_sorts : List Sort
 all_sorts =
-    Resistor ∷ Source ∷ Load ∷ Dc ∷ Mark ∷ Dot ∷ End ∷ Other ∷ CardEnd ∷ Range ∷ Stray ∷ TextEnd ∷ []
+    Resistor ∷ Source ∷ Load ∷ Capacitor ∷ Dc ∷ Mark ∷ Dot ∷ End ∷ Other ∷ CardEnd ∷ Range ∷ Stray ∷ TextEnd ∷ []
 
 -- The sort is this one.
 abbrev pub the : Sort → Sort → Bool
@@ -45,6 +46,7 @@ abbrev pub sort_of_letter : Letter → Sort
 sort_of_letter letters.Resistor = Resistor
 sort_of_letter letters.Source = Source
 sort_of_letter letters.Load = Load
+sort_of_letter letters.Capacitor = Capacitor
 sort_of_letter letters.Other = Other
 
 -- The sort of a word within a card or a dot line.
@@ -71,6 +73,7 @@ pub listed : (sort : Sort) → slice_get all_sorts (number_of sort) ≡ Some sor
 listed Resistor = refl
 listed Source = refl
 listed Load = refl
+listed Capacitor = refl
 listed Dc = refl
 listed Mark = refl
 listed Dot = refl

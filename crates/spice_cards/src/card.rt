@@ -1,7 +1,7 @@
 //! Units taken apart.
 ghost use Rattle.std.specs.Prelude.{◌≡◌, true, IsTrue, ◌↔◌, map, option_map};
 ghost use Rattle.reading.specs.Word.{token};
-ghost use Rattle.spice_cards.specs.Card.{is_dc_first, without_dc, value_at, card_in, card_of, card_with, resistor_with, source_with, load_with, is_ground as ground};
+ghost use Rattle.spice_cards.specs.Card.{is_dc_first, without_dc, value_at, card_in, card_of, card_with, resistor_with, source_with, load_with, capacitor_with, is_ground as ground};
 
 use crate::sort::{Sort, is, sort_of};
 use reading::Word;
@@ -27,6 +27,12 @@ pub(crate) enum Card<'a> {
         b: &'a [u8],
         value: &'a [u8],
         range: Option<Ends<'a>>,
+    },
+    /// `Cname a b FARADS`
+    Capacitor {
+        a: &'a [u8],
+        b: &'a [u8],
+        value: &'a [u8],
     },
 }
 
@@ -121,6 +127,19 @@ fn load_with<'a>(a: &'a [u8], b: &'a [u8], words: &[Word<'a>]) -> Option<Card<'a
     }
 }
 
+fn capacitor_with<'a>(a: &'a [u8], b: &'a [u8], words: &[Word<'a>]) -> Option<Card<'a>>
+    ensures { option_map card_in result ≡ capacitor_with a.now b.now (map token words.now) }
+{
+    match words {
+        [value, _] => Some(Card::Capacitor {
+            a,
+            b,
+            value: value.text,
+        }),
+        _ => None,
+    }
+}
+
 /// The card of this letter, these nodes and what stands after them.
 fn card_with<'a>(letter: Sort, a: &'a [u8], b: &'a [u8], words: &[Word<'a>]) -> Option<Card<'a>>
     ensures { option_map card_in result ≡ card_with letter a.now b.now (map token words.now) }
@@ -129,6 +148,7 @@ fn card_with<'a>(letter: Sort, a: &'a [u8], b: &'a [u8], words: &[Word<'a>]) -> 
         Sort::Resistor => resistor_with(a, b, words),
         Sort::Source => source_with(a, b, without_dc(words)),
         Sort::Load => load_with(a, b, without_dc(words)),
+        Sort::Capacitor => capacitor_with(a, b, words),
         _ => None,
     }
 }

@@ -1,6 +1,6 @@
 //! The faults that the words of a card show.
 ghost use Rattle.std.specs.Prelude.{◌≡◌, ◌≤◌, map, int_lt};
-ghost use Rattle.spice_cards.specs.Fault.{is_zero as zero_value, refused_kind, refused_by, floating_by, low_by, high_by, AnswerFault, EndFault, is_strange as strange_sort, FirstFault, source_by, ResistorFault, SourceFault, LoadFault, CardFault};
+ghost use Rattle.spice_cards.specs.Fault.{is_zero as zero_value, refused_kind, refused_by, floating_by, low_by, high_by, AnswerFault, EndFault, is_strange as strange_sort, FirstFault, source_by, ResistorFault, SourceFault, LoadFault, CapacitorFault, CardFault};
 ghost use Rattle.spice_cards.specs.Number.{volts, amperes};
 ghost use Rattle.number_place.specs.Place.{CanRead};
 ghost use Rattle.reading.specs.Fault.{Finds};
@@ -8,7 +8,7 @@ ghost use Rattle.reading.specs.Word.{token};
 
 use crate::card::{is_ground, value_at, without_dc};
 use crate::error::CardsKind;
-use crate::number::{AMPERES, OHMS, VOLTS};
+use crate::number::{AMPERES, FARADS, OHMS, VOLTS};
 use crate::section::Section;
 use crate::sort::Sort;
 use fixed_decimal::DecimalError;
@@ -195,6 +195,16 @@ fn load_fault(at: usize, words: &[Word<'_>]) -> Option<Found<CardsKind>>
     }
 }
 
+/// The fault that the words after the ends of a capacitor show.
+fn capacitor_fault(words: &[Word<'_>]) -> Option<Found<CardsKind>>
+    ensures { Finds (CapacitorFault (map token words.now)) result }
+{
+    match words {
+        [value] => found_at(3, number_fault(FARADS, value.text)),
+        _ => None,
+    }
+}
+
 /// The fault that the words after the nodes of a card with this letter show.
 pub(crate) fn card_fault(
     letter: Sort,
@@ -208,6 +218,7 @@ pub(crate) fn card_fault(
         Sort::Resistor => resistor_fault(words),
         Sort::Source => source_fault(a, b, value_at(words), without_dc(words)),
         Sort::Load => load_fault(value_at(words), without_dc(words)),
+        Sort::Capacitor => capacitor_fault(words),
         _ => None,
     }
 }

@@ -7,20 +7,20 @@ ghost use Rattle.name_table.specs.Numbering.{TakesName, AreDistinct};
 ghost use Rattle.node_names.specs.Folding.{folded};
 ghost use Rattle.number_place.specs.Place.{CanRead, IsNumberAt};
 ghost use Rattle.reading.specs.Word.{Token, token};
-ghost use Rattle.spice_cards.specs.Card.{Resistor as ResistorCard, Source as SourceCard, Load as LoadCard, card_in, card_of as card_in_unit, ends_in};
-ghost use Rattle.spice_cards.specs.Number.{amperes};
+ghost use Rattle.spice_cards.specs.Card.{Resistor as ResistorCard, Source as SourceCard, Load as LoadCard, Capacitor as CapacitorCard, card_in, card_of as card_in_unit, ends_in};
+ghost use Rattle.spice_cards.specs.Number.{amperes, IsCapacitance};
 ghost use Rattle.spice_cards.specs.Record.{HasNumber, SaysCards, AreNumbered, IsRange, LoadsNode, but_ground};
 ghost use Rattle.spice_cards.specs.Card.{is_ground as ground_name};
 ghost use Rattle.spice_cards.specs.inside.Held.{Holds, Adds, AddsUnit, AddsPad, AddsShort, AddsLoad};
 
 use crate::card::{Card, Ends, card_of, is_ground};
 use crate::fault::is_zero;
-use crate::number::{AMPERES, OHMS, VOLTS};
-use crate::record::Cards;
+use crate::number::{AMPERES, FARADS, OHMS, VOLTS};
+use crate::record::{Capacitor, Cards};
 use crate::section::Section;
 use grid_net::{Load, Pad, Resistor};
 use node_names::NodeNames;
-use number_place::{NumberPlace, number_at, small_number_at};
+use number_place::{NumberPlace, number_at, small_number_at, values_fit_their_places};
 use reading::Word;
 use std::alloc::{AllocError, Global};
 
@@ -42,6 +42,7 @@ impl<'a> Held<'a> {
                 shorts: Vec::new(alloc),
                 pads: Vec::new(alloc),
                 loads: Vec::new(alloc),
+                caps: Vec::new(alloc),
             },
             section: Section::Cards,
         })
@@ -53,7 +54,10 @@ impl<'a> Held<'a> {
         ensures numbers { (units : List (List Token)) → Holds units self.entry → AreNumbered result }
         ensures ranges { (units : List (List Token)) → Holds units self.entry →
             All (λ load. load.low ≤ℤ load.high) result.loads.items }
+        ensures farads { (units : List (List Token)) → Holds units self.entry →
+            All (λ cap. IsCapacitance cap.farads) result.caps.items }
     {
+        values_fit_their_places();
         self.cards
     }
 }
@@ -245,6 +249,20 @@ fn take_load<'a>(
     add_load(cards, b, back)
 }
 
+/// What a capacitor's card says.
+fn take_capacitor<'a>(
+    cards: &mut Cards<'a>,
+    a: &'a [u8],
+    b: &'a [u8],
+    value: &'a [u8],
+) -> Result<(), AllocError>
+    ensures { OnOk result (Adds (CapacitorCard a.now b.now value.now) cards.old cards.new) }
+{
+    let farads = value_of(FARADS, value)?;
+    cards.caps.push(Capacitor { a, b, farads })?;
+    Ok(())
+}
+
 /// What a card says.
 fn take_card<'a>(cards: &mut Cards<'a>, card: Card<'a>) -> Result<(), AllocError>
     ensures { OnOk result (Adds (card_in card.entry) cards.old cards.new) }
@@ -253,6 +271,7 @@ fn take_card<'a>(cards: &mut Cards<'a>, card: Card<'a>) -> Result<(), AllocError
         Card::Resistor { a, b, value } => take_resistor(cards, a, b, value),
         Card::Source { a, b, value } => take_source(cards, a, b, value),
         Card::Load { a, b, value, range } => take_load(cards, a, b, value, range),
+        Card::Capacitor { a, b, value } => take_capacitor(cards, a, b, value),
     }
 }
 

@@ -21,9 +21,6 @@ mod sort;
 
 pub use error::{CardsError, CardsKind};
 pub use laws::{netlists_have_one_reading, node_names_are_words, whole_cards_are_read};
-pub use number::{AMPERES_LIMIT, OHMS_LIMIT, VOLTS_LIMIT};
+pub use number::{AMPERES_LIMIT, FARADS_LIMIT, OHMS_LIMIT, VOLTS_LIMIT};
 pub use read::read_cards;
-pub use record::Cards;
-
-#[cfg(test)]
-mod tests;
+pub use record::{Capacitor, Cards};

@@ -75,6 +75,12 @@ const LOAD: Rule<'static, Sort> = Rule::Then(
     &Rule::Then(&NAME, &Rule::Then(&NAME, &LOAD_VALUE)),
 );
 
+/// `Cname a b FARADS`
+const CAPACITOR: Rule<'static, Sort> = Rule::Then(
+    &Rule::One(&[Sort::Capacitor]),
+    &Rule::Then(&NAME, &Rule::Then(&NAME, &Rule::Then(&NUMBER, &END))),
+);
+
 /// The first word of a dot line, `.end`, and the first word of any other card, which is refused.
 const SINGLE: Rule<'static, Sort> = Rule::One(&[
     Sort::Dc,
@@ -86,7 +92,7 @@ const SINGLE: Rule<'static, Sort> = Rule::One(&[
 
 const CARD: Rule<'static, Sort> = Rule::Or(
     &RESISTOR,
-    &Rule::Or(&SOURCE, &Rule::Or(&LOAD, &SINGLE)),
+    &Rule::Or(&SOURCE, &Rule::Or(&LOAD, &Rule::Or(&CAPACITOR, &SINGLE))),
 );
 
 /// Each word of a dot line is passed over, and the line ends with it.

@@ -14,6 +14,8 @@ pub(crate) enum Sort {
     Source,
     /// It begins with `I` or `i`.
     Load,
+    /// It begins with `C` or `c`.
+    Capacitor,
     /// `DC`
     Dc,
     /// `;`, `(` or `)`, which never stand for a value.
@@ -55,6 +57,7 @@ fn sort_of_letter(letter: Letter) -> Sort
         Letter::Resistor => Sort::Resistor,
         Letter::Source => Sort::Source,
         Letter::Load => Sort::Load,
+        Letter::Capacitor => Sort::Capacitor,
         Letter::Other => Sort::Other,
     }
 }

@@ -1,7 +1,9 @@
 pub mod LineLemmas
 pub mod LoadLemmas
 pub mod PlaceLemmas
+pub mod CapLemmas
 pub mod NamedLemmas
 pub mod OrderLemmas
+pub mod EndLemmas
 pub mod ReadLemmas
 pub mod OneLemmas

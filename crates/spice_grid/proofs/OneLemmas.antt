@@ -2,6 +2,9 @@
 use Rattle.std.proofs.Common.{◌≡◌, ◌≢◌, ◌↔◌, ◌⊎◌, inl, inr, ℕ, ◌<◌, ℤ, Bool, true, false, if◌then◌else◌, List, [], ◌∷◌, ◌++◌, Option, None, Some, Result, Ok, Err, get_or, slice_get, Contains, refl, sym, ap, ◌∙◌, subst, arith}
 use Rattle.std.specs.Prelude.{neg_ℤ}
 use Rattle.std.proofs.lemmas.Option.{slice_get_within, get_or_from_slice_get}
+use Rattle.capacitors.specs.declared.End.{End}
+use Rattle.capacitors.specs.declared.End.TheVariants as ends
+use Rattle.capacitors.specs.declared.Cap.{Cap}
 use Rattle.entry_list.specs.InTurn.{InTurn}
 use Rattle.entry_list.specs.Laws.{in-turn-one}
 use Rattle.grid_net.specs.declared.part.Load.{Load as NetLoad}
@@ -18,10 +21,10 @@ use Rattle.reading.specs.declared.error.ReadError.{ReadError}
 use Rattle.reading.specs.Word.{Token}
 use Rattle.spice_cards.specs.declared.error.CardsKind.{CardsKind}
 use Rattle.spice_cards.specs.declared.error.CardsKind.TheVariants as cards
-use Rattle.spice_cards.specs.Card.{Card, Resistor, Source, Load, Ends, is_ground, cards_of}
+use Rattle.spice_cards.specs.Card.{Card, Resistor, Source, Load, Capacitor, CapacitorCard, Ends, is_ground, cards_of, capacitors_of}
 use Rattle.spice_cards.specs.Fault.{is_zero}
 use Rattle.spice_cards.specs.Format.{IsNetlist, IsRefusedNetlist}
-use Rattle.spice_cards.specs.Number.{ohms, volts, amperes}
+use Rattle.spice_cards.specs.Number.{ohms, volts, amperes, farads}
 use Rattle.spice_cards.specs.Record.{HasNumber, Part, resistor_part, short_part, pad_part, load_part, SaysCard, SaysSource, LoadsNode, IsRange}
 use Rattle.spice_grid.specs.declared.error.NetRefusal.{NetRefusal}
 use Rattle.spice_grid.specs.declared.error.NetRefusal.TheVariants.{Range, PadConflict}
@@ -29,6 +32,7 @@ use Rattle.spice_grid.specs.declared.error.SpiceError.{SpiceError}
 use Rattle.spice_grid.specs.declared.error.SpiceKind.{SpiceKind}
 use Rattle.spice_grid.specs.declared.error.SpiceKind.TheVariants as kinds
 use Rattle.spice_grid.specs.declared.named.Named.{Named}
+use Rattle.spice_grid.specs.Caps.{IsEnd, IsCapacitor}
 use Rattle.spice_grid.specs.Named.{IsRefusedFor}
 use Rattle.spice_grid.specs.Netlist.{SaysInOrder, shorts_of, network_by, refusal_by, IsNamedBy, RefusesNetwork, spice_kind, RefusesWord, RefusesText, ReadsNetlist, IsAtWord}
 use Rattle.spice_grid.proofs.PlaceLemmas.{not_before_itself}
@@ -96,6 +100,33 @@ module _ (number : OneNumber) (names : List (List ℕ)) (up : IsInByteOrder name
       let first = loads_one (is_ground a) a h.1 h.2 k.1 k.2 s.0 t.0 ends.0 ends.1 s.2 t.2 in
       let second = loads_one (is_ground b) b (neg_ℤ h.2) (neg_ℤ h.1) (neg_ℤ k.2) (neg_ℤ k.1) s.1 t.1 (ap neg_ℤ ends.1) (ap neg_ℤ ends.0) s.3 t.3 in
       s.4 ∙ (λ t. load_part (first t ++ second t)) ∙ sym t.4
+  part_one (Capacitor a b text) p q h k = h ∙ sym k
+
+  -- one end for each name
+
+  named_there : (name : List ℕ) (n : ℕ) → HasNumber names name n → Contains names (folded name)
+  named_there name n h = (n, slice_get_within names n (folded name) h, get_or_from_slice_get names n (folded name) (folded name) h)
+
+  unlike : (name : List ℕ) → is_ground name ≡ false → is_ground name ≡ true → ⊥
+  unlike name e f = let t : ◌≡◌ {A = Bool} false true = sym e ∙ f in cc
+
+  end_one : (name : List ℕ) (x y : End) → IsEnd names name x → IsEnd names name y → x ≡ y
+  end_one name (ends.Node m) (ends.Node n) h k = ap (λ z. ends.Node z) (node name m n h.1 k.1)
+  end_one name (ends.Node m) ends.Ground h k = absurd (unlike name h.0 k)
+  end_one name (ends.Node m) ends.Nowhere h k = absurd (k.1 (named_there name m h.1))
+  end_one name ends.Ground (ends.Node n) h k = absurd (unlike name k.0 h)
+  end_one name ends.Ground ends.Ground h k = refl
+  end_one name ends.Ground ends.Nowhere h k = absurd (unlike name k.0 h)
+  end_one name ends.Nowhere (ends.Node n) h k = absurd (h.1 (named_there name n k.1))
+  end_one name ends.Nowhere ends.Ground h k = absurd (unlike name h.0 k)
+  end_one name ends.Nowhere ends.Nowhere h k = refl
+
+  cap_one : (card : CapacitorCard) (x y : Cap) → IsCapacitor names card x → IsCapacitor names card y → x ≡ y
+  cap_one card x y h k =
+      let first = end_one card.a x.a y.a h.a k.a in
+      let second = end_one card.b x.b y.b h.b k.b in
+      let same = value farads card.value x.farads y.farads h.farads k.farads in
+      λ t. record { a = first t; b = second t; farads = same t }
 
 -- ## one network for the units
 
@@ -115,7 +146,9 @@ module _ (number : OneNumber) (order : OneOrder) (units : List (List Token)) whe
       let ps = parts_one a.names b.names h.parts k.parts ns h.order k.order in
       let nets : a.net ≡ b.net = h.network ∙ (λ t. network_by (ns t) (ps t)) ∙ sym k.network in
       let shorts : a.shorts ≡ b.shorts = h.shorts ∙ ap shorts_of ps ∙ sym k.shorts in
-      λ t. record { net = nets t; names = ns t; shorts = shorts t }
+      let caps : a.caps ≡ b.caps = in-turn-one (IsCapacitor a.names) (λ card x y. cap_one number a.names h.order.in_byte_order card x y) (capacitors_of units) a.caps b.caps h.caps
+      (subst (λ z. InTurn (IsCapacitor z) (capacitors_of units) b.caps) (sym ns) k.caps) in
+      λ t. record { net = nets t; names = ns t; shorts = shorts t; caps = caps t }
 
   refusal_here : (ns ms : List (List ℕ)) (ps qs : List Part) → SaysInOrder units ns ps → SaysInOrder units ms qs → refusal_by ns ps ≡ refusal_by ms qs
   refusal_here ns ms ps qs h k =

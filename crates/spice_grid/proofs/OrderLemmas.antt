@@ -20,16 +20,19 @@ use Rattle.name_table.specs.Laws.{member_cases}
 use Rattle.node_names.specs.Folding.{folded}
 use Rattle.reading.specs.Word.{Token}
 use Rattle.spice_cards.specs.declared.record.Cards.{Cards}
-use Rattle.spice_cards.specs.Card.{Card, Resistor, Source, Load, is_ground, cards_of}
+use Rattle.spice_cards.specs.Card.{Card, Resistor, Source, Load, Capacitor, is_ground, cards_of, capacitors_of}
 use Rattle.spice_cards.specs.Fault.{is_zero}
+use Rattle.spice_cards.specs.Number.{IsCapacitance}
 use Rattle.spice_cards.specs.Record.{HasNumber, Part, resistor_part, short_part, load_part, SaysCard, SaysSource, LoadsNode, SaysCards, AreNumbered}
 use Rattle.spice_grid.specs.declared.error.NetRefusal.{NetRefusal}
 use Rattle.spice_grid.specs.declared.error.NetRefusal.TheVariants.{Range, PadConflict}
 use Rattle.spice_grid.specs.declared.error.SpiceKind.TheVariants as kinds
 use Rattle.spice_grid.specs.declared.named.Named.{Named}
 use Rattle.spice_grid.specs.Place.{placed_resistor, placed_short, placed_pad, placed_load}
+use Rattle.spice_grid.specs.Caps.{EndAmong}
 use Rattle.spice_grid.specs.Named.{IsOrderOf, place_in, ground, ground_pads, all_pads, network_in, refusal_in, IsNamed, IsRefusedFor, RefusesCards}
 use Rattle.spice_grid.specs.Netlist.{SaysInOrder, resistors_of, shorts_of, loads_of, pads_of, network_by, refusal_by, IsNamedBy, RefusesNetwork, NamedKeeps}
+use Rattle.spice_grid.proofs.CapLemmas.{caps_are, caps_among, caps_hold}
 
 -- ## places of names
 
@@ -68,12 +71,12 @@ placed_name names ordered same n x h =
 abbrev pad_at : ℕ → Pad
 pad_at number = record { node = number; volts = pos 0 }
 
-is_there : (x : List ℕ) (xs : List (List ℕ)) (n : ℕ) → position (bytes_eq x) xs ≡ Some n → slice_get xs n ≡ Some x
+pub is_there : (x : List ℕ) (xs : List (List ℕ)) (n : ℕ) → position (bytes_eq x) xs ≡ Some n → slice_get xs n ≡ Some x
 is_there x xs n e =
     let at = position-Some (bytes_eq x) xs n [] e in
     slice_get-get_or xs n [] at.0 ∙ ap Some (sym ((bytes_eq-Decides x (get_or xs n [])).0 at.1))
 
-position_is : (x : List ℕ) (xs : List (List ℕ)) → Contains xs x → position (bytes_eq x) xs ≡ Some (position_or_len (bytes_eq x) xs)
+pub position_is : (x : List ℕ) (xs : List (List ℕ)) → Contains xs x → position (bytes_eq x) xs ≡ Some (position_or_len (bytes_eq x) xs)
 position_is x xs h =
     let within : position_or_len (bytes_eq x) xs < length xs = slice_get_within xs (position_or_len (bytes_eq x) xs) x (found x xs h) in
     grind (arith, within)
@@ -150,6 +153,7 @@ module _ (names ordered : List (List ℕ)) (same : IsPermutation names ordered) 
           ap (placed_part place) s.4 ∙ ap load_part (map-append (placed_load place) s.0 s.1),
         ),
       )
+  part_moves (Capacitor a b value) part h = ap (placed_part place) h
 
   parts_move : (cards : List Card) (parts : List Part) → InTurn (SaysCard names) cards parts → InTurn (SaysCard ordered) cards (map (placed_part place) parts)
   parts_move [] [] h = tt
@@ -217,6 +221,7 @@ named_is units cards named h is fine = record {
   accepted = sym (refusal_there units cards h named.names is.order) ∙ fine;
   network = is.network ∙ network_there units cards h named.names is.order;
   shorts = is.shorts ∙ shorts_there units cards h named.names is.order;
+  caps = caps_are named.names (capacitors_of units) cards.caps.items named.caps h.caps is.caps;
 }
 
 refusal_is : (names : List (List ℕ)) (a b : Option NetError) (refusal : NetRefusal) → a ≡ b → IsRefusedFor names a refusal → IsRefusedFor names b refusal
@@ -236,8 +241,8 @@ place_within : (names ordered : List (List ℕ)) → IsPermutation names ordered
 place_within names ordered same n h =
     slice_get_within ordered (place_in names ordered n) (get_or names n []) (placed_name names ordered same n (get_or names n []) (slice_get-get_or names n [] h))
 
-pub named_keeps : (cards : Cards) (named : Named) → AreNumbered cards → IsNamed cards named → NamedKeeps named
-named_keeps cards named numbered is =
+pub named_keeps : (cards : Cards) (named : Named) → AreNumbered cards → All (λ cap. IsCapacitance cap.farads) cards.caps.items → IsNamed cards named → NamedKeeps named
+named_keeps cards named numbered farads is =
     let count : length named.names ≡ named.net.nodes = sym (ap (λ (n : Network). n.nodes) is.network) in record {
       one_name_per_node = count;
       in_byte_order = is.order.in_byte_order;
@@ -245,6 +250,8 @@ named_keeps cards named numbered is =
           subst (λ (l : List (ℕ × ℕ)). All (λ s. (s.0 < named.net.nodes) × (s.1 < named.net.nodes)) l) (sym is.shorts)
           (subst (λ n. All (λ s. (s.0 < n) × (s.1 < n)) (map (placed_short (place_in cards.names named.names)) cards.shorts.items)) count
           (placed_within cards.names named.names is.order.same_names cards.shorts.items numbered.shorts));
+      ends_among_nodes = subst (λ n. EndAmong n named.caps) count (caps_among named.names cards.caps.items named.caps is.caps);
+      capacitances = caps_hold named.names cards.caps.items named.caps is.caps farads;
     }
   where
     placed_within : (names ordered : List (List ℕ)) → IsPermutation names ordered → (shorts : List (ℕ × ℕ)) → All (λ s. (s.0 < length names) × (s.1 < length names)) shorts →

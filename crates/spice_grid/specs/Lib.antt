@@ -3,3 +3,4 @@ pub mod Named
 pub mod Netlist
 pub mod Written
 pub mod inside
+pub mod Caps

@@ -3,6 +3,7 @@ use Rattle.std.specs.Prelude.{◌≡◌, ℕ, pos, List, [], ◌++◌, length, m
 use Rattle.std.specs.List.{position_or_len}
 use Rattle.std.specs.Option.{option_map, option_to_list}
 use Rattle.std.specs.Str.{bytes_eq}
+use Rattle.entry_list.specs.InTurn.{InTurn}
 use Rattle.name_table.specs.ByteOrder.{IsInByteOrder}
 use Rattle.grid_net.specs.declared.part.Pad.{Pad}
 use Rattle.grid_net.specs.declared.error.NetError.{NetError}
@@ -15,6 +16,7 @@ use Rattle.spice_grid.specs.declared.error.NetRefusal.TheVariants.{Range, PadCon
 use Rattle.spice_grid.specs.declared.error.SpiceKind.{SpiceKind}
 use Rattle.spice_grid.specs.declared.error.SpiceKind.TheVariants.{Net, Want}
 use Rattle.spice_grid.specs.declared.named.Named.{Named}
+use Rattle.spice_grid.specs.Caps.{IsNumbered}
 use Rattle.spice_grid.specs.Place.{placed_resistor, placed_short, placed_pad, placed_load}
 
 -- The same names in byte order.
@@ -53,11 +55,12 @@ refusal_in cards ordered =
     first_net_refusal (length ordered) (map (placed_resistor place) cards.resistors.items) (map (placed_pad place) (all_pads cards))
     (map (placed_load place) cards.loads.items)
 
--- The cards with their nodes in byte order: the names, the network, and the shorts in the order of the cards.
+-- The cards with their nodes in byte order: the names, the network, and the shorts and capacitors in the order of the cards.
 pub record IsNamed (cards : Cards) (named : Named) : Type 0 where
   pub order : IsOrderOf cards.names named.names
   pub network : named.net ≡ network_in cards named.names
   pub shorts : named.shorts ≡ map (placed_short (place_in cards.names named.names)) cards.shorts.items
+  pub caps : InTurn (IsNumbered named.names) cards.caps.items named.caps
 
 -- What refuses a network tells so, where its nodes have these names: a quantity with its place and number, or the name of a
 -- node and the voltages of its two pads that differ.

@@ -20,6 +20,7 @@ use Rattle.spice_grid.specs.declared.error.SpiceError.{SpiceError}
 use Rattle.spice_grid.specs.declared.error.SpiceKind.{SpiceKind}
 use Rattle.spice_grid.specs.declared.error.SpiceKind.TheVariants.{Syntax, OutOfProfileCard, FloatingSource, Number, OutOfRange, Net, Want}
 use Rattle.spice_grid.specs.declared.named.Named.{Named}
+use Rattle.spice_grid.specs.Caps.{AreCapacitors, EndAmong, HaveCapacitance}
 use Rattle.spice_grid.specs.Named.{ground_pads, IsRefusedFor}
 
 -- What the cards among these units say, where the number of a node is the place of its name in byte order: each card says
@@ -50,13 +51,15 @@ network_by names parts = network_of (length names) (resistors_of parts) (pads_of
 abbrev pub refusal_by : List (List ℕ) → List Part → Option NetError
 refusal_by names parts = first_net_refusal (length names) (resistors_of parts) (pads_of names parts) (loads_of parts)
 
--- The record of a netlist of these units: the names of its nodes, its network, which nothing refuses, and its shorts.
+-- The record of a netlist of these units: the names of its nodes, its network, which nothing refuses, its shorts and its
+-- capacitors.
 pub record IsNamedBy (units : List (List Token)) (named : Named) : Type 0 where
   pub parts : List Part
   pub order : SaysInOrder units named.names parts
   pub accepted : refusal_by named.names parts ≡ None
   pub network : named.net ≡ network_by named.names parts
   pub shorts : named.shorts ≡ shorts_of parts
+  pub caps : AreCapacitors units named.names named.caps
 
 -- What refuses the network of the cards among these units.
 abbrev pub RefusesNetwork : List (List Token) → NetRefusal → Type 0
@@ -98,8 +101,11 @@ IsAtWord (Net refusal) = ⊥
 IsAtWord Want = ⊥
 IsAtWord _ = Unit {0}
 
--- What each record that is read keeps: one name for each node, in byte order, and shorts between nodes.
+-- What each record that is read keeps: one name for each node, in byte order, shorts between nodes, and capacitors whose
+-- ends are nodes, ground or nowhere, with a capacitance from 0 to 10^30.
 pub record NamedKeeps (named : Named) : Type 0 where
   pub one_name_per_node : length named.names ≡ named.net.nodes
   pub in_byte_order : IsInByteOrder named.names
   pub shorts_are_nodes : All (λ s. (s.0 < named.net.nodes) × (s.1 < named.net.nodes)) named.shorts
+  pub ends_among_nodes : EndAmong named.net.nodes named.caps
+  pub capacitances : HaveCapacitance named.caps

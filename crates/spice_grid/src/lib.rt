@@ -6,6 +6,7 @@
 //! nano-ohms, yoctovolts and femtoamperes. The cards are read by `spice_cards`.
 #![tactic(auto)]
 
+mod caps;
 mod error;
 mod laws;
 mod named;
@@ -13,11 +14,9 @@ mod netlist;
 mod place;
 mod written;
 
+pub use capacitors::{Cap, End};
 pub use error::{NetRefusal, SpiceError, SpiceKind};
 pub use laws::{names_are_words, texts_have_one_netlist};
 pub use named::Named;
 pub use netlist::read_netlist;
 pub use written::netlist_text;
-
-#[cfg(test)]
-mod tests;

@@ -5,8 +5,10 @@ ghost use Rattle.spice_cards.specs.Record.{AreNumbered};
 ghost use Rattle.spice_grid.specs.Named.{IsNamed, ground_pads, refusal_in, RefusesCards};
 ghost use Rattle.spice_grid.specs.inside.Named.{IsToldAs};
 
+use crate::caps::numbered_caps;
 use crate::error::{NetRefusal, SpiceKind};
 use crate::place::place_all;
+use capacitors::Cap;
 use entry_list::Entries;
 use grid_net::{Net, NetError, Pad};
 use node_names::{NodeNames, OrderedNodes};
@@ -14,7 +16,7 @@ use outside::Name;
 use spice_cards::Cards;
 use std::alloc::{AllocError, Global};
 
-/// A network whose nodes have names, and the shorts between its nodes.
+/// A network whose nodes have names, the shorts between its nodes, and its capacitors, which are no part of the network.
 #[derive(Drop)]
 pub struct Named {
     /// The network. The number of a node is the place of its name.
@@ -23,11 +25,13 @@ pub struct Named {
     pub names: Entries<Name>,
     /// The two nodes of each short, in the order of the cards.
     pub shorts: Entries<(u32, u32)>,
+    /// The capacitors, in the order of their cards. An end with the name `0` is ground, also where `0` is a node.
+    pub caps: Entries<Cap>,
 }
 
 impl Named {
     /// The network of the cards, with its nodes in the byte order of their names. Entries keep their places, and where
-    /// ground is a node, its pad of 0 V stands after the other pads.
+    /// ground is a node, its pad of 0 V stands after the other pads. The ends of capacitors are looked up among the names.
     ///
     /// No list is copied. Errors: `Net`, what `Net::build` refuses the lists for, where a conflict of pads names its node;
     /// `Want` for want of memory.
@@ -39,21 +43,24 @@ impl Named {
         ensures refused { IfErr result (RefusesCards cards.entry) }
     {
         let Cards {
-            names,
+            names: table,
             mut resistors,
             mut shorts,
             mut pads,
             mut loads,
+            caps,
         } = cards;
-        add_ground(&mut pads, &names)?;
-        let nodes = names.len() as u32;
-        let OrderedNodes { names, places } = names.ordered(alloc)?;
+        add_ground(&mut pads, &table)?;
+        let nodes = table.len() as u32;
+        let OrderedNodes { names, places } = table.ordered(alloc)?;
         place_all(&mut resistors, &mut shorts, &mut pads, &mut loads, &places);
+        let caps = numbered_caps(alloc, &table, &places, &caps)?;
         match Net::build(alloc, nodes, resistors, pads, loads) {
             Ok(net) => Ok(Named {
                 net,
                 names: Entries::new(names),
                 shorts: Entries::new(shorts),
+                caps: Entries::new(caps),
             }),
             Err(error) => Err(refusal_of(error, names)),
         }

@@ -3,8 +3,6 @@
 
 mod lines;
 mod rule;
-#[cfg(test)]
-mod tests;
 
 pub use lines::{straps, straps_up_to};
 pub use rule::StrapRule;

@@ -15,6 +15,3 @@ pub use laws::{forms_of_modes, one_split, places_of_words};
 pub use name::is_name;
 pub use word::{Form, LexError, LexKind, Mode, Word};
 pub use words::Words;
-
-#[cfg(test)]
-mod tests;

@@ -12,6 +12,7 @@ mod line;
 mod netlist;
 mod script;
 mod tech;
+mod waves;
 
 use outside::{LONGEST_TEXT, StdFiles, StdSink, read_whole, send};
 use std::alloc::{AllocError, Global};
@@ -68,6 +69,9 @@ fn told(alloc: Global, format: &str, text: &[u8]) -> Result<Option<Printed>, All
     }
     if format == "lef_tech" {
         return Ok(Some(tech::told(alloc, text)?));
+    }
+    if format == "waves" {
+        return Ok(Some(waves::told(alloc, text)?));
     }
     Ok(None)
 }

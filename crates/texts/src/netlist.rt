@@ -1,10 +1,10 @@
-//! Netlists: `node NAME`, `resistor A B OHMS`, `pad NODE VOLTS`, `load NODE LOW HIGH` of each node and `short A B`, one list after the
-//! other, where a node is the place of its name. A network that is refused is `Range QUANTITY AT NUMBER` or
+//! Netlists: `node NAME`, `resistor A B OHMS`, `pad NODE VOLTS`, `load NODE LOW HIGH` of each node, `short A B` and `cap A B FARADS`, one
+//! list after the other, where a node is the place of its name, and an end of a capacitor may be `ground` or `nowhere`. A network that is refused is `Range QUANTITY AT NUMBER` or
 //! `PadConflict NAME FIRST SECOND`.
 use crate::line::{add_number, add_word, begin, end, number_kind, refusal};
 use crate::{Printed, RECORD, REFUSED};
 use grid_net::{Net, Quantity};
-use spice_grid::{Named, NetRefusal, SpiceKind, read_netlist};
+use spice_grid::{End, Named, NetRefusal, SpiceKind, read_netlist};
 use std::alloc::{AllocError, Global};
 
 /// A line of its first word and numbers.
@@ -59,6 +59,25 @@ fn add_shorts(out: &mut Vec<u8>, named: &Named) -> Result<(), AllocError> {
     Ok(())
 }
 
+fn add_end(out: &mut Vec<u8>, end: End) -> Result<(), AllocError> {
+    match end {
+        End::Node(node) => add_number(out, i128::from(node)),
+        End::Ground => add_word(out, b"ground"),
+        End::Nowhere => add_word(out, b"nowhere"),
+    }
+}
+
+fn add_caps(out: &mut Vec<u8>, named: &Named) -> Result<(), AllocError> {
+    for cap in named.caps.as_slice() {
+        begin(out, b"cap")?;
+        add_end(out, cap.a)?;
+        add_end(out, cap.b)?;
+        add_number(out, cap.farads)?;
+        end(out)?;
+    }
+    Ok(())
+}
+
 fn record(alloc: Global, named: &Named) -> Result<Vec<u8>, AllocError> {
     let mut out = Vec::new(alloc);
     add_names(&mut out, named)?;
@@ -66,6 +85,7 @@ fn record(alloc: Global, named: &Named) -> Result<Vec<u8>, AllocError> {
     add_pads(&mut out, &named.net)?;
     add_loads(&mut out, &named.net)?;
     add_shorts(&mut out, named)?;
+    add_caps(&mut out, named)?;
     Ok(out)
 }
 

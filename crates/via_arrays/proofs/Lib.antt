@@ -5,4 +5,3 @@ pub mod Division
 pub mod Joined
 pub mod Single
 pub mod Whole
-pub mod Tested

@@ -2,4 +2,3 @@ pub mod Lengths
 pub mod Cuts
 pub mod Pairs
 pub mod Stacks
-pub mod Tested

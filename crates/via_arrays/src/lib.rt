@@ -12,8 +12,6 @@ mod pairs;
 mod parts;
 mod resistances;
 mod stacks;
-#[cfg(test)]
-mod tests;
 
 pub use arrays::array;
 pub use choice::choose_rule;

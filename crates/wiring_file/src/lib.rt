@@ -24,6 +24,3 @@ pub use laws::{texts_have_one_wiring, whole_wirings_are_read, written_wirings_re
 pub use number::{NUMBER_LIMIT, UNITS_LIMIT};
 pub use read::read_wiring;
 pub use record::{PlaceText, ViaText, WireText, Wiring};
-
-#[cfg(test)]
-mod tests;

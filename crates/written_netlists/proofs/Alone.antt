@@ -101,6 +101,7 @@ module _ (laws : AloneLaws) (net : Network) (names : List (List ℕ)) (built : I
     groups = alone net.nodes;
     names = sym (names_of_nodes net names count);
     network = sym (laws.network net (range_with_len 0 net.nodes) (range_with_len 0 net.nodes) built (alone net.nodes));
+    caps = refl;
   }
 
   pub only_merged : (merged : Merged) → IsMerged (read_back net names) merged → merged ≡ unmerged net names
@@ -108,4 +109,5 @@ module _ (laws : AloneLaws) (net : Network) (names : List (List ℕ)) (built : I
     net = (is.network ∙ laws.network net merged.group is.firsts built is.groups) i;
     names = (is.names ∙ ap (map (λ node. slice_index_or names node [])) (laws.firsts net.nodes merged.group is.firsts is.groups) ∙ names_of_nodes net names count) i;
     group = laws.group net.nodes merged.group is.firsts is.groups i;
+    caps = is.caps i;
   }

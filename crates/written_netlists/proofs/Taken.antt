@@ -23,7 +23,7 @@ use Rattle.spice_cards.specs.Sort.{the, keywords, sort_of_letter, sort_of_text, 
 use Rattle.spice_cards.specs.declared.error.CardsKind.TheVariants.{OutOfRange}
 use Rattle.spice_cards.specs.Rule.{is_name, is_number, is_value, name, number, dc, end, load_end, pattern}
 use Rattle.spice_cards.specs.Section.{section_from, section_of, section_after, is_ended}
-use Rattle.spice_cards.specs.Card.{Card, is_ground, without_dc, value_at, source_with, load_with, card_of, cards_of}
+use Rattle.spice_cards.specs.Card.{Card, is_ground, without_dc, value_at, source_with, load_with, card_of, cards_of, capacitor_in}
 use Rattle.spice_cards.specs.Card as said
 use Rattle.spice_cards.specs.Number.{ohms, volts, amperes}
 use Rattle.spice_cards.specs.Fault.{refused_by, floating_by, source_by, low_by, high_by, AnswerFault, EndFault, SourceFault, LoadFault, is_strange}
@@ -101,6 +101,7 @@ letter_name : (letter : Letter) → is_name (sort_of_letter letter) ≡ true
 letter_name letters.Resistor = refl
 letter_name letters.Source = refl
 letter_name letters.Load = refl
+letter_name letters.Capacitor = refl
 letter_name letters.Other = refl
 
 -- Each word of a line may be a name.
@@ -347,13 +348,13 @@ last_taken n before words here =
     let at_two : section_of two ≡ section_of [] = section_next one ((op ∷ []) ∷ []) (stop ∷ []) at_one in
     let at_three : section_of three ≡ section_of ((end ∷ []) ∷ []) = section_next two [] (end ∷ []) at_two in (
       omega arith,
-      single_taken before [] op here (inr (inr (inr (op, refl, refl)))) refl,
+      single_taken before [] op here (inr (inr (inr (inr (op, refl, refl))))) refl,
       (
         omega arith,
         single_taken one ((op ∷ []) ∷ []) stop at_one (stop, refl, refl) refl,
         (
           omega arith,
-          single_taken two [] end at_two (inr (inr (inr (end, refl, refl)))) refl,
+          single_taken two [] end at_two (inr (inr (inr (inr (end, refl, refl))))) refl,
           (
             omega arith,
             single_taken three ((end ∷ []) ∷ []) (end_after words) at_three (end_after words, ap (the (sort_of (end_after []))) (end_sort words), refl) (ap is_strange (end_sort words)),
@@ -420,3 +421,11 @@ cards_are (card ∷ cards) n more h =
 
 pub last_cards : (n : ℕ) (words : List Token) → cards_of (last_units n ++ (end_after words ∷ []) ∷ []) ≡ []
 last_cards n words = refl
+
+-- None of the cards is a capacitor.
+pub no_capacitors : (cards : List CardText) → filter_map capacitor_in (map said_card cards) ≡ []
+no_capacitors [] = refl
+no_capacitors (Ohms tail a b value ∷ cards) = no_capacitors cards
+no_capacitors (Volts tail a value ∷ cards) = no_capacitors cards
+no_capacitors (Amps tail a value ∷ cards) = no_capacitors cards
+no_capacitors (AmpsIn tail a value low high ∷ cards) = no_capacitors cards

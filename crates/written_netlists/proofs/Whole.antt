@@ -1,6 +1,6 @@
 -- A written netlist reads back as its network and its names.
 use Rattle.std.proofs.Common.{◌≡◌, ℕ, zero, suc, ◌+◌, ◌<◌, ◌==◌, ◌||◌, Bool, true, false, pos, List, [], ◌∷◌, ◌++◌, length, map, codes, Contains, Ok, eqb-true, refl, sym, ◌∙◌, ap, subst, append_assoc, arith, inl, inr, ◌⊎◌}
-use Rattle.std.specs.Prelude.{decimal, Any, None, if◌then◌else◌, filter, flat_map, slice_index_or}
+use Rattle.std.specs.Prelude.{decimal, Any, None, if◌then◌else◌, filter, filter_map, flat_map, slice_index_or}
 use Rattle.std.specs.List.{enumerate_from, AllByRecursion}
 use Rattle.std.specs.Ordering.{int_eq}
 use Rattle.std.proofs.lemmas.List.{append-nil, map-append, get_or_default}
@@ -18,8 +18,9 @@ use Rattle.grid_net.specs.Network.{Network, load_range, stands_at}
 use Rattle.reading.specs.Pattern.{joined}
 use Rattle.reading.specs.Word.{Token, end_after}
 use Rattle.spice_cards.specs.Format.{IsNetlist}
-use Rattle.spice_cards.specs.Card.{Card, cards_of}
+use Rattle.spice_cards.specs.Card.{Card, cards_of, capacitor_in, capacitors_of}
 use Rattle.spice_cards.specs.Record.{SaysCard, nodes_of}
+use Rattle.spice_grid.specs.Caps.{IsCapacitor}
 use Rattle.spice_grid.specs.Named.{ground}
 use Rattle.spice_grid.specs.Netlist.{SaysInOrder, ReadsNetlist, pads_of, network_by, refusal_by}
 use Rattle.spice_grid.specs.Written.{name_of, draws, drawing_loads, card_end, line_of, numbered_card, note_line, resistor_line, pad_line, load_lines, written_netlist}
@@ -27,7 +28,7 @@ use Rattle.written_netlists.specs.Fits.{IsOnOneLine, HasCard, CanBeWritten, read
 use Rattle.written_netlists.proofs.Lines.{ended}
 use Rattle.written_netlists.proofs.Values.{NumberLaws}
 use Rattle.written_netlists.proofs.Cards.{CardText, Amps, AmpsIn, card_lines, units, last_units, past_all}
-use Rattle.written_netlists.proofs.Taken.{IsCard, said_card, cards_are}
+use Rattle.written_netlists.proofs.Taken.{IsCard, said_card, cards_are, no_capacitors}
 use Rattle.written_netlists.proofs.Text.{WholeCards, title, note_bytes, card_text, first_card, text_units, all_units, text_read}
 use Rattle.written_netlists.proofs.Parts.{resistor_card, pad_card, load_card, IsResistorHere, IsPadHere, IsLoadHere, entry, resistor_is, pad_is, load_is, resistor_says, pad_says, load_says, resistor_nodes, pad_nodes, load_nodes}
 use Rattle.written_netlists.proofs.Network.{each_both, each_map, each_numbered, turn_both, turn_map, map_twice, flat_mapped, resistors_good, pads_good, drawn_good, cards, parts, drawn, resistor_said, pad_said, load_said, resistors_are, shorts_are, pads_are, loads_are, IsNamed, in_one, in_two, flat_named, flat_has, any_numbered}
@@ -272,6 +273,9 @@ module _ (laws : NumberLaws) (whole : WholeCards) (law : NothingShorted) (none :
       ∙ cards_are (cards net names) first (last_units last ++ end) cards_good
       ∙ append-nil (map said_card (cards net names)) ∙ said_same
 
+  none_here : capacitors_of us ≡ []
+  none_here = ap (filter_map capacitor_in) (cards_same ∙ sym said_same) ∙ no_capacitors (cards net names)
+
   order : SaysInOrder us names (parts net)
   order = record {
     says = subst (λ z. InTurn (SaysCard names) z (parts net)) (sym cards_same) says;
@@ -319,5 +323,5 @@ module _ (laws : NumberLaws) (whole : WholeCards) (law : NothingShorted) (none :
     us,
     subst (λ z. IsNetlist z us) (sym (text_same net names notes))
         (text_read laws whole notes (cards net names) (recursion_from_All IsOnOneLine notes can.notes_are_lines) cards_good),
-    record { parts = parts net; order = order; accepted = accepted; network = sym network_same; shorts = sym (shorts_are net) },
+    record { parts = parts net; order = order; accepted = accepted; network = sym network_same; shorts = sym (shorts_are net); caps = subst (λ z. InTurn (IsCapacitor names) z []) (sym none_here) tt },
   )

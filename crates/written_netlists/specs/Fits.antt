@@ -41,6 +41,6 @@ pub record CanBeWritten (net : Network) (names : List (List ℕ)) (notes : List 
   pub each_has_a_card : (node : ℕ) → node < net.nodes → HasCard net node
   pub notes_are_lines : All IsOnOneLine notes
 
--- What is read: the network, with the names of its nodes and no short.
+-- What is read: the network, with the names of its nodes, no short and no capacitor.
 abbrev pub read_back : Network → List (List ℕ) → Named
-read_back net names = record { net = net; names = names; shorts = [] }
+read_back net names = record { net = net; names = names; shorts = []; caps = [] }

@@ -22,8 +22,8 @@ use spice_cards::whole_cards_are_read;
 use spice_grid::texts_have_one_netlist;
 
 /// A written netlist reads back: where a network, the names of its nodes and the notes of its layers can be written,
-/// reading what is written of them gives the same network with the same names, and no short; and nothing else, want of
-/// memory aside.
+/// reading what is written of them gives the same network with the same names, no short and no capacitor; and nothing else,
+/// want of memory aside.
 pub fn written_netlists_read_back()
     ensures reads { (net : Network) (names : List (List ℕ)) (notes : List Note) → CanBeWritten net names notes →
         ReadsNetlist (written_netlist net names notes) (Ok (read_back net names)) }
@@ -43,7 +43,7 @@ pub fn written_netlists_read_back()
     whole_cards_are_read();
 }
 
-/// A netlist without shorts is its own network of groups: there is nothing to merge, and no two pads of a group differ.
+/// A netlist without shorts and capacitors is its own network of groups: there is nothing to merge, and no two pads of a group differ.
 pub fn nothing_to_merge()
     ensures merged { (net : Network) (names : List (List ℕ)) → IsBuilt net → length names ≡ net.nodes →
         IsMerged (read_back net names) (unmerged net names) }

@@ -1,3 +1,2 @@
 pub mod Wiring
 pub mod Fits
-pub mod inside

@@ -8,6 +8,3 @@
 mod laws;
 
 pub use laws::written_grids_read_back;
-
-#[cfg(test)]
-mod tests;

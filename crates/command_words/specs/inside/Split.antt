@@ -1,6 +1,6 @@
 -- What the reader needs of options, inside this crate.
 use Rattle.command_words.specs.declared.command.Command.{Command}
-use Rattle.command_words.specs.declared.command.Command.TheVariants.{Build, Solve, Generate}
+use Rattle.command_words.specs.declared.command.Command.TheVariants.{Build, Solve, Step, Generate}
 use Rattle.std.specs.Prelude.{◌≡◌, [], ◌∷◌, ◌≢◌, ℕ, ◌<◌, List, length, Contains, drop, slice_index, map}
 use Rattle.command_words.specs.Setting.{Sets}
 use Rattle.std.specs.Borrow.{Bor}
@@ -37,3 +37,8 @@ abbrev pub IsGenerateOf : List (List ℕ) → ℕ → ℕ → Command → Type 0
 IsGenerateOf values number side (Generate n s a b c d e) =
     (x : List ℕ) × (y : List ℕ) × (values ≡ x ∷ y ∷ a ∷ b ∷ c ∷ d ∷ e ∷ []) × (n ≡ number) × (s ≡ side)
 IsGenerateOf values number side command = ⊥
+
+abbrev pub IsStepOf : List (List ℕ) → ℕ → ℕ → Command → Type 0
+IsStepOf values time steps (Step a b t s c d) =
+    (x : List ℕ) × (y : List ℕ) × (values ≡ x ∷ y ∷ a ∷ b ∷ c ∷ d ∷ []) × (t ≡ time) × (s ≡ steps)
+IsStepOf values time steps command = ⊥

@@ -1,4 +1,3 @@
-use Rattle.std.proofs.Common.{sym, ◌∙◌}
 use Rattle.command_words.proofs.Commands.{t9, no_word}
 use Rattle.command_words.proofs.build.build_of.Goals as goal
 

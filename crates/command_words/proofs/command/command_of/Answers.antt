@@ -1,4 +1,4 @@
-use Rattle.std.proofs.Common.{◌≡◌, ◌<◌, IfOk, rules, length, codes, sym, subst}
+use Rattle.std.proofs.Common.{◌<◌, IfOk, rules, length, codes, sym, subst}
 use Rattle.command_words.specs.Words.{IsCommand}
 use Rattle.command_words.proofs.Commands.{named_first}
 use Rattle.command_words.proofs.command.command_of.Goals as goal
@@ -22,3 +22,8 @@ pub returns-then-eq-4-clause-command : goal.returns-then-eq-4-clause-command
 returns-then-eq-4-clause-command c =
     let some : 0 < length c.args.words.now = search rules in
     subst (λ z. IfOk c.generate.result (IsCommand z)) (named_first c.args.words.now _ (codes "generate") some (sym c.if-eq-4.ensures)) c.generate.ensures.command
+
+pub returns-then-eq-5-clause-command : goal.returns-then-eq-5-clause-command
+returns-then-eq-5-clause-command c =
+    let some : 0 < length c.args.words.now = search rules in
+    subst (λ z. IfOk c.step.result (IsCommand z)) (named_first c.args.words.now _ (codes "step") some (sym c.if-eq-5.ensures)) c.step.ensures.command

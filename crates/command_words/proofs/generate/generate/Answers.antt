@@ -1,7 +1,7 @@
-use Rattle.std.proofs.Common.{◌≡◌, Err, drop, length, [], ◌∷◌, refl, sym, ◌∙◌, ap, subst, arith}
+use Rattle.std.proofs.Common.{◌≡◌, Err, length, ◌∷◌, refl, sym, ◌∙◌, ap, subst, arith}
 use Rattle.command_words.specs.Setting.{SetsEach}
-use Rattle.command_words.specs.Words.{generate_options, AreApart}
-use Rattle.command_words.specs.inside.Split.{texts, IsGenerateOf}
+use Rattle.command_words.specs.Words.{generate_options}
+use Rattle.command_words.specs.inside.Split.{texts}
 use Rattle.command_words.proofs.Commands.{no_generate, error_is, not_apart, is_apart, made_generate, number_missing, side_missing, number_at}
 use Rattle.command_words.proofs.generate.generate.Goals as goal
 

@@ -1,4 +1,4 @@
-use Rattle.std.proofs.Common.{◌≡◌, ◌<◌, ◌≤◌, rules, length, Contains, arith}
+use Rattle.std.proofs.Common.{◌<◌, rules, length, arith}
 use Rattle.std.proofs.lemmas.List.Elements.{All-contains}
 use Rattle.command_words.specs.inside.Split.{HasNoEquals, texts}
 use Rattle.command_words.proofs.Spelling.{none_map, none_at_equals, none_alone, none_before}

@@ -1,4 +1,3 @@
-use Rattle.std.proofs.Common.{sym, ◌∙◌}
 use Rattle.command_words.proofs.Commands.{t3, no_word}
 use Rattle.command_words.proofs.short.solve_of.Goals as goal
 

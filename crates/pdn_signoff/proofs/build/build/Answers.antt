@@ -2,11 +2,12 @@ use Rattle.std.proofs.Common.{◌≡◌, ℕ, List, ap, refl, subst, ◌∙◌}
 use Rattle.building.specs.Inputs.{FiveTexts, five_texts}
 use Rattle.building.specs.Building.{IsDesignOf}
 use Rattle.building.specs.Refusal.{IsUnbuilt}
-use Rattle.pdn_signoff.specs.Build.{BuildsFiles}
 use Rattle.pdn_signoff.specs.Check.{FilesThen, IsTooLong}
 use Rattle.pdn_signoff.specs.Solve.{SolverThen}
 use Rattle.pdn_signoff.specs.inside.Build.{AreRead, five_of, WritesBuilt}
-use Rattle.pdn_signoff.proofs.Building.{is_file, first_unread, read_failed, are_read, inputs_known, file_unread, texts_refused, outputs_written}
+use Rattle.pdn_signoff.specs.Build.{files_read, BuildsFiles}
+use Rattle.pdn_signoff.proofs.Building.{are_read, inputs_known, file_unread, texts_refused, outputs_written}
+use Rattle.pdn_signoff.proofs.Reading.{is_file, first_unread, read_failed}
 use Rattle.pdn_signoff.proofs.Solving.{same_files}
 use Rattle.pdn_signoff.proofs.build.build.Goals as goal
 
@@ -20,9 +21,9 @@ returns-in-Err-clause-builds g c =
     let are = c.names_read-read.ensures in
     let place = c.in-Err.stopped.place in
     let refused = c.in-Err.ensures in
-    file_unread solver solver before after f refused.kept c.in-Err.stopped.error _ place (first_unread before.known f read are place _ refused.place refused.earlier)
-    (λ is. read_failed before after _ _ (is_file before.known f read are place _ refused.place) (refused.fault is))
-    (λ is. subst (λ (file : List ℕ). IsTooLong before.known file) (is_file before.known f read are place _ refused.place) (refused.too_long is)) refused.calm_too_long c.unread.result c.unread.ensures
+    file_unread solver solver before after f refused.kept c.in-Err.stopped.error _ place (first_unread before.known (files_read f) read are place _ refused.place refused.earlier)
+    (λ is. read_failed before after _ _ (is_file before.known (files_read f) read are place _ refused.place) (refused.fault is))
+    (λ is. subst (λ (file : List ℕ). IsTooLong before.known file) (is_file before.known (files_read f) read are place _ refused.place) (refused.too_long is)) refused.calm_too_long c.unread.result c.unread.ensures
 
 pub returns-in-Ok-build_texts-clause-builds : goal.returns-in-Ok-build_texts-clause-builds
 returns-in-Ok-build_texts-clause-builds g c =

@@ -3,6 +3,7 @@ use Rattle.pdn_signoff.proofs.Causes.{AreLaws, check_writes_nothing, ran_other, 
 use Rattle.pdn_signoff.proofs.Completing.{among_built, built, accepted_built, asked_built, completed}
 use Rattle.pdn_signoff.proofs.Making.{among, generated, made}
 use Rattle.pdn_signoff.proofs.Signing.{AreSolvingLaws, others, signed, accepted, asked, solved}
+use Rattle.pdn_signoff.proofs.Stepping.{among_stepped, stepped, asked_stepped, completed_steps}
 use Rattle.pdn_signoff.proofs.command.run.Goals as goal
 
 pub returns-clause-kept : goal.returns-clause-kept
@@ -27,13 +28,13 @@ pub returns-clause-calm : goal.returns-clause-calm
 returns-clause-calm g c =
     let s : SolverThen = record { told = g.V.Solver.told c.args.solver.now; proposals = g.V.Solver.proposals c.args.solver.now } in
     let s' : SolverThen = record { told = g.V.Solver.told c.run_command.new.solver; proposals = g.V.Solver.proposals c.run_command.new.solver } in
-    calm _ s s' _ _ _ _ _ c.run_command.ensures.answer
+    calm c.netlists_are_stepped_alike.ensures.sort _ s s' _ _ _ _ _ c.run_command.ensures.answer
 
 pub returns-clause-usage : goal.returns-clause-usage
 returns-clause-usage g c =
     let s : SolverThen = record { told = g.V.Solver.told c.args.solver.now; proposals = g.V.Solver.proposals c.args.solver.now } in
     let s' : SolverThen = record { told = g.V.Solver.told c.run_command.new.solver; proposals = g.V.Solver.proposals c.run_command.new.solver } in
-    usage _ s s' _ _ _ _ _ c.run_command.ensures.answer
+    usage c.netlists_are_stepped_alike.ensures.sort _ s s' _ _ _ _ _ c.run_command.ensures.answer
 
 pub returns-clause-refused : goal.returns-clause-refused
 returns-clause-refused g c =
@@ -221,3 +222,51 @@ returns-clause-completed g c =
       one_command = c.words_have_one_command.ensures;
     } in
     completed laws _ s s' _ _ _ _ _ c.run_command.ensures.answer
+
+pub returns-clause-step_outputs : goal.returns-clause-step_outputs
+returns-clause-step_outputs g c =
+    let s : SolverThen = record { told = g.V.Solver.told c.args.solver.now; proposals = g.V.Solver.proposals c.args.solver.now } in
+    let s' : SolverThen = record { told = g.V.Solver.told c.run_command.new.solver; proposals = g.V.Solver.proposals c.run_command.new.solver } in
+    let laws : AreLaws = record {
+      one = c.texts_are_judged_once.ensures.one;
+      tested = c.texts_are_judged_once.ensures.tested;
+      bounded = c.texts_are_judged_once.ensures.bounded;
+      one_command = c.words_have_one_command.ensures;
+    } in
+    among_stepped laws c.netlists_are_stepped_alike.ensures.sort _ s s' _ _ _ _ _ c.run_command.ensures.answer
+
+pub returns-clause-stepped : goal.returns-clause-stepped
+returns-clause-stepped g c =
+    let s : SolverThen = record { told = g.V.Solver.told c.args.solver.now; proposals = g.V.Solver.proposals c.args.solver.now } in
+    let s' : SolverThen = record { told = g.V.Solver.told c.run_command.new.solver; proposals = g.V.Solver.proposals c.run_command.new.solver } in
+    let laws : AreLaws = record {
+      one = c.texts_are_judged_once.ensures.one;
+      tested = c.texts_are_judged_once.ensures.tested;
+      bounded = c.texts_are_judged_once.ensures.bounded;
+      one_command = c.words_have_one_command.ensures;
+    } in
+    stepped laws c.netlists_are_stepped_alike.ensures.sort _ s s' _ _ _ _ _ c.run_command.ensures.answer
+
+pub returns-clause-step_asked : goal.returns-clause-step_asked
+returns-clause-step_asked g c =
+    let s : SolverThen = record { told = g.V.Solver.told c.args.solver.now; proposals = g.V.Solver.proposals c.args.solver.now } in
+    let s' : SolverThen = record { told = g.V.Solver.told c.run_command.new.solver; proposals = g.V.Solver.proposals c.run_command.new.solver } in
+    let laws : AreLaws = record {
+      one = c.texts_are_judged_once.ensures.one;
+      tested = c.texts_are_judged_once.ensures.tested;
+      bounded = c.texts_are_judged_once.ensures.bounded;
+      one_command = c.words_have_one_command.ensures;
+    } in
+    asked_stepped laws c.netlists_are_stepped_alike.ensures.sort _ s s' _ _ _ _ _ c.run_command.ensures.answer
+
+pub returns-clause-step_completed : goal.returns-clause-step_completed
+returns-clause-step_completed g c =
+    let s : SolverThen = record { told = g.V.Solver.told c.args.solver.now; proposals = g.V.Solver.proposals c.args.solver.now } in
+    let s' : SolverThen = record { told = g.V.Solver.told c.run_command.new.solver; proposals = g.V.Solver.proposals c.run_command.new.solver } in
+    let laws : AreLaws = record {
+      one = c.texts_are_judged_once.ensures.one;
+      tested = c.texts_are_judged_once.ensures.tested;
+      bounded = c.texts_are_judged_once.ensures.bounded;
+      one_command = c.words_have_one_command.ensures;
+    } in
+    completed_steps laws c.netlists_are_stepped_alike.ensures.sort _ s s' _ _ _ _ _ c.run_command.ensures.answer

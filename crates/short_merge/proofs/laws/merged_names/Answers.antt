@@ -1,4 +1,4 @@
-use Rattle.std.proofs.Common.{◌≡◌, ◌<◌, ℕ, List, [], arith, sym, ap, subst, ◌∙◌, length, get_or, map, All}
+use Rattle.std.proofs.Common.{◌<◌, ℕ, List, [], arith, sym, ap, subst, ◌∙◌, length, get_or, map, All}
 use Rattle.std.specs.Prelude.{Contains}
 use Rattle.std.proofs.lemmas.List.{length-map, get_or-map}
 use Rattle.name_table.specs.ByteOrder.{IsBefore, IsInByteOrder}

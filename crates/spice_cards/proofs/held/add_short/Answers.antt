@@ -23,4 +23,5 @@ returns c =
         pads = sym (append-nil _);
         loads = sym (append-nil _);
       };
+      caps = refl;
     }

@@ -30,6 +30,7 @@ returns-in_ok-push c =
         pads = sym (append-nil _);
         loads = sym (append-nil _);
       };
+      caps = refl;
     }
 
 pub returns-in_ok-push-2 : goal.returns-in_ok-push-2
@@ -55,4 +56,5 @@ returns-in_ok-push-2 c =
         pads = sym (append-nil _);
         loads = sym (append-nil _);
       };
+      caps = refl;
     }

@@ -11,3 +11,7 @@ returns-in-Ok-read_words-clause-reads c =
 
 pub returns-clause-reads : goal.returns-clause-reads
 returns-clause-reads c = error_told c.args.text.now c.new-words.result c.in-Err.refusal c.error_of.result c.new-words.ensures.words c.in-Err.ensures c.error_of.ensures
+
+pub returns-in-Ok-read_words-clause-farads : goal.returns-in-Ok-read_words-clause-farads
+returns-in-Ok-read_words-clause-farads c =
+    let g = c.in-Ok-read_words.ensures in c.into_cards.ensures.farads g.0 g.2

@@ -10,7 +10,7 @@ returns-in-Ok-build-clause-reads c =
     (read.0, read.1, named_is read.0 _ _ read.2 c.in-Ok-build.ensures.named c.in-Ok-build.ensures.not_refused)
 
 pub returns-in-Ok-build-clause-keeps : goal.returns-in-Ok-build-clause-keeps
-returns-in-Ok-build-clause-keeps c = named_keeps _ _ c.in-Ok.ensures.numbers c.in-Ok-build.ensures.named
+returns-in-Ok-build-clause-keeps c = named_keeps _ _ c.in-Ok.ensures.numbers c.in-Ok.ensures.farads c.in-Ok-build.ensures.named
 
 pub returns-in-Err-build-clause-reads : goal.returns-in-Err-build-clause-reads
 returns-in-Err-build-clause-reads c =

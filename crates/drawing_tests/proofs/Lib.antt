@@ -1,0 +1,3 @@
+pub mod Arrays
+pub mod Near
+pub mod Rings

@@ -1,5 +1,0 @@
-use Rattle.std.proofs.Common.{◌≡◌, ℕ, ◌<◌, List, get_or}
-use Rattle.grid_taps.proofs.tests.is_new.Given as goal
-
-abbrev pub invariant-loop-j : goal.invariant-loop-j
-invariant-loop-j l = (i : ℕ) (d : List ℕ) → i < l.j → get_or l.names i d ≡ get_or l.names l.k d → ⊥

@@ -1,5 +1,0 @@
-use Rattle.std.proofs.Common.{ℕ, ◌<◌, All}
-use Rattle.node_groups.proofs.tests.chain_from_the_end.Given as goal
-
-abbrev pub invariant-loop-node : goal.invariant-loop-node
-invariant-loop-node l = All (λ (s : ℕ × ℕ). (s.0 < l.nodes) × (s.1 < l.nodes)) l.shorts.items

@@ -1,0 +1,201 @@
+//! Refusals as they are told. The lines were worked out apart from this code.
+use def_design::{Design, read_design};
+use entry_list::Entries;
+use geom_rect::Rect;
+use grid_network::ExtractError;
+use grid_pieces::{Counted, DrawError, Grid, Touching};
+use lef_tech::{Tech, read_tech};
+use outside::Name;
+use pdn_script::{Script, read_script};
+use refusal_words::*;
+use std::alloc::{AllocError, Global};
+use std::test::Fail;
+use via_arrays::StackError;
+
+/// Two routing layers and a rule that joins them, behind a rule of other cuts.
+const TECHNOLOGY: &[u8] = b"VERSION 5.8 ;
+LAYER metal1
+  TYPE ROUTING ;
+  DIRECTION HORIZONTAL ;
+END metal1
+LAYER via1
+  TYPE CUT ;
+END via1
+LAYER metal2
+  TYPE ROUTING ;
+  DIRECTION VERTICAL ;
+END metal2
+VIARULE Via1Bar GENERATE
+  LAYER metal1 ;
+    ENCLOSURE 0 0 ;
+  LAYER metal2 ;
+    ENCLOSURE 0 0 ;
+  LAYER via1 ;
+    RECT -0.07 -0.035 0.07 0.035 ;
+    SPACING 0.30 BY 0.15 ;
+END Via1Bar
+VIARULE Via1Array GENERATE
+  LAYER metal1 ;
+    ENCLOSURE 0 0.035 ;
+  LAYER metal2 ;
+    ENCLOSURE 0 0.035 ;
+  LAYER via1 ;
+    RECT -0.035 -0.035 0.035 0.035 ;
+    SPACING 0.15 BY 0.15 ;
+END Via1Array
+END LIBRARY
+";
+
+const DESIGN: &[u8] = b"VERSION 5.8 ;
+DESIGN small ;
+UNITS DISTANCE MICRONS 2000 ;
+DIEAREA ( 0 0 ) ( 8000 5600 ) ;
+ROW r0 unit 0 0 N DO 20 BY 1 STEP 400 0 ;
+ROW r1 unit 0 2800 FS DO 20 BY 1 STEP 400 0 ;
+COMPONENTS 2 ;
+- u1 C0 + PLACED ( 2400 0 ) N ;
+- u2 C0 + PLACED ( 2400 2800 ) FS ;
+END COMPONENTS
+END DESIGN
+";
+
+const SCRIPT: &[u8] = b"set_voltage_domain -name CORE -power VDD -ground VSS
+set_voltage_domain -name AON -power VDDA -ground VSS -region aon
+set_voltage_domain -name D -power VD -ground VSS -region d
+pdngen
+";
+
+/// How many refusals of a drawing are told.
+const DRAWING: usize = 19;
+
+// A refusal of a drawing, and what is told of it.
+fn drawing(at: usize) -> (DrawError, &'static [u8]) {
+    match at {
+        0 => (DrawError::RingLayers(1), b"RingLayers 1"),
+        1 => (DrawError::RailLayer(1), b"RailLayer metal2"),
+        2 => (DrawError::ParallelConnect(0), b"ParallelConnect 0"),
+        3 => (DrawError::OffGrid(480_250), b"OffGrid 480250"),
+        4 => (DrawError::OddWidth(480_500), b"OddWidth 480500"),
+        5 => (DrawError::RegionShape(1), b"RegionShape AON"),
+        6 => (DrawError::RegionsMeet(1, 2), b"RegionsMeet AON D"),
+        7 => (DrawError::RowAcross(1), b"RowAcross r1"),
+        8 => (DrawError::EmptyDomain(0), b"EmptyDomain CORE"),
+        9 => (DrawError::MacroGrid(1), b"MacroGrid u2"),
+        10 => (DrawError::TooMany(Counted::Lines), b"TooMany Lines"),
+        11 => (DrawError::TooMany(Counted::Stacks), b"TooMany Stacks"),
+        12 => (DrawError::NoSheet(0), b"NoSheet metal1"),
+        13 => no_stack(StackError::NoRule(1), b"Stack NoRule metal2 6000 2800"),
+        14 => no_stack(StackError::OffGrid(1), b"Stack OffGrid Via1Array 6000 2800"),
+        15 => no_stack(
+            StackError::NoCutFits(0),
+            b"Stack NoCutFits metal1 6000 2800",
+        ),
+        16 => no_stack(
+            StackError::NoResistance(0),
+            b"Stack NoResistance metal1 6000 2800",
+        ),
+        17 => touch(),
+        _ => (DrawError::NoRows, b"NoRows"),
+    }
+}
+
+fn no_stack(error: StackError, words: &'static [u8]) -> (DrawError, &'static [u8]) {
+    (DrawError::Stack(error, 6000, 2800), words)
+}
+
+fn touch() -> (DrawError, &'static [u8]) {
+    let touching = Touching {
+        layer: 1,
+        first: Rect {
+            x1: 1520,
+            y1: -170,
+            x2: 2480,
+            y2: 170,
+        },
+        second: Rect {
+            x1: 2300,
+            y1: -170,
+            x2: 2700,
+            y2: 170,
+        },
+        same: true,
+    };
+    (
+        DrawError::Touch(touching),
+        b"Touch metal2 1520 -170 2480 170 2300 -170 2700 170 true",
+    )
+}
+
+/// Refusals of an extraction, and what is told of each.
+const EXTRACTION: [(ExtractError, &[u8]); 4] = [
+    (ExtractError::UnknownName(4), b"UnknownName 4"),
+    (ExtractError::NoSupply(1), b"NoSupply VSS"),
+    (ExtractError::PadOff(10), b"PadOff 10"),
+    (ExtractError::LoadOff(0), b"LoadOff u1"),
+];
+
+// A grid of two nets.
+fn grid(alloc: Global) -> Result<Grid, AllocError> {
+    Ok(Grid {
+        units: 2000,
+        nets: Entries::new(vec![in alloc; Name::new(alloc, b"VDD")?, Name::new(alloc, b"VSS")?]?),
+        power: Entries::new(vec![in alloc; true, false]?),
+        domains: Entries::new(Vec::new(alloc)),
+        pieces: Entries::new(Vec::new(alloc)),
+        stacks: Entries::new(Vec::new(alloc)),
+    })
+}
+
+// The first refusal of a drawing that is told otherwise, `DRAWING` where there is none.
+fn first_drawing_untold(
+    alloc: Global,
+    tech: &Tech,
+    design: &Design,
+    script: &Script,
+) -> Result<usize, AllocError> {
+    for at in 0..DRAWING {
+        let (error, words) = drawing(at);
+        let told = draw_words(alloc, tech, design, script, &error)?;
+        if told.as_slice() != words {
+            return Ok(at);
+        }
+    }
+    Ok(DRAWING)
+}
+
+// Whether a name of any bytes is told as it stands.
+fn tells_any_bytes(
+    alloc: Global,
+    tech: &Tech,
+    design: &Design,
+    script: &Script,
+) -> Result<bool, AllocError> {
+    let unknown = DrawError::UnknownName(Name::new(alloc, b"m\xff 4")?);
+    let told = draw_words(alloc, tech, design, script, &unknown)?;
+    Ok(told.as_slice() == b"UnknownName m\xff 4".as_slice())
+}
+
+// The first refusal of an extraction that is told otherwise, their number where there is none.
+fn first_extraction_untold(alloc: Global, design: &Design) -> Result<usize, AllocError> {
+    let grid = grid(alloc)?;
+    for (at, (error, words)) in EXTRACTION.iter().enumerate() {
+        let told = extract_words(alloc, &grid, design, error)?;
+        if told.as_slice() != *words {
+            return Ok(at);
+        }
+    }
+    Ok(EXTRACTION.len())
+}
+
+#[test]
+fn told_refusals(rt: HostRuntime) -> Result<(), Fail> {
+    let tech = read_tech(rt.alloc(), TECHNOLOGY)?;
+    let design = read_design(rt.alloc(), DESIGN)?;
+    let script = read_script(rt.alloc(), SCRIPT)?;
+    let drawn = first_drawing_untold(rt.alloc(), &tech, &design, &script)?;
+    assert_eq!(rt; drawn, DRAWING);
+    assert!(rt; tells_any_bytes(rt.alloc(), &tech, &design, &script)?);
+    let extracted = first_extraction_untold(rt.alloc(), &design)?;
+    assert_eq!(rt; extracted, EXTRACTION.len());
+    Ok(())
+}

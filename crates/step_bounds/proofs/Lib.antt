@@ -1,0 +1,12 @@
+pub mod Pushed
+pub mod Memory
+pub mod Pads
+pub mod Drawn
+pub mod Supply
+pub mod Resistors
+pub mod Refused
+pub mod Solutions
+pub mod Halves
+pub mod Counted
+pub mod Course
+pub mod Stepped

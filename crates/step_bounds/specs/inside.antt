@@ -1,0 +1,4 @@
+pub mod Extension
+pub mod Loads
+pub mod Passed
+pub mod Step

@@ -1,0 +1,5 @@
+mod Alike
+mod Floating
+mod Kept
+mod Network
+mod Within

@@ -1,0 +1,4 @@
+pub mod Inputs
+pub mod Refusal
+pub mod Stepped
+pub mod inside

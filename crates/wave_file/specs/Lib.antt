@@ -1,0 +1,9 @@
+pub mod Sort
+pub mod Section
+pub mod Rule
+pub mod Number
+pub mod Fault
+pub mod Record
+pub mod Keeps
+pub mod Format
+pub mod inside

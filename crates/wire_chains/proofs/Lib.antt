@@ -1,0 +1,6 @@
+mod Lists
+mod Permuted
+mod Order
+mod Column
+mod Paths
+mod Runs

@@ -1,0 +1,4 @@
+mod Along
+mod Merged
+mod Orders
+mod Reach

@@ -1,0 +1,16 @@
+use Rattle.std.proofs.Common.{ℕ, ℤ, Bool, arith, rules}
+use Rattle.std.specs.Ordering.{is_lt}
+use Rattle.std.specs.List.Sorted.{IsSortedBy}
+use Rattle.std.proofs.lemmas.List.Sorted.{answers_always}
+use Rattle.grid_pieces.specs.declared.piece.Piece.{Piece}
+use Rattle.grid_pieces.specs.Laws.Orders.{in_order}
+use Rattle.wire_pieces.specs.Pieces.{is_upright, wire_order}
+use Rattle.wire_pieces.proofs.Orders.{wire_total}
+use Rattle.wire_pieces.proofs.pieces.sort.Goals as goal
+
+pub returns-clause-in_order : goal.returns-clause-in_order
+returns-clause-in_order c i j d less within =
+    let key : Piece → ℕ × ℕ × ℤ × ℤ × ℤ × Bool = λ (p : Piece). (p.net, p.layer, p.centre, p.from, p.width, is_upright p.axis) in
+    let sorted : IsSortedBy (λ x y. is_lt (wire_order x y)) c.sort_unstable_by_key.new.self =
+    c.sort_unstable_by_key.ensures.sorted key (answers_always _ _ _ (λ f a r f' called. search rules)) in
+    in_order wire_order wire_total c.sort_unstable_by_key.new.self sorted i j d (omega arith) within

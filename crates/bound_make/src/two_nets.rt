@@ -44,6 +44,8 @@ fn fill_halves<V: Solver>(
     let nodes = of_high.nodes() as usize;
     let _as_many = of_low.nodes();
     solver.propose(of_high, work, high, besides);
+    // the second proposal has the whole region too
+    work.reset();
     solver.propose(of_low, work, besides, low);
     let span = list_span(work, nodes);
     let mut list = WorkList::new(work.get_mut(span));

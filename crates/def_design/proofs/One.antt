@@ -12,7 +12,7 @@ use Rattle.def_design.specs.declared.record.Component.{Component}
 use Rattle.def_design.specs.declared.record.Design.{Design}
 use Rattle.def_design.specs.declared.record.Fence.{Fence}
 use Rattle.def_design.specs.declared.record.Row.{Row}
-use Rattle.def_design.specs.Format.{format, kinds, ReadsDesign}
+use Rattle.def_design.specs.Format.{format, kinds, ReadsText}
 use Rattle.def_design.specs.inside.Held.{Holds, HoldsSaid}
 use Rattle.def_design.specs.Record.{Stated, SaysPoint, between, SaysRect, SaysArea, SaysName, SaysUnits, SaysDie, SaysCount, SaysStep, SaysRow, SaysPlace, SaysComponent, After, SaysSpacing, SaysBlockage, SaysRects, SaysRegion, IsDesign}
 use Rattle.def_design.specs.Unit.{is_more}
@@ -172,8 +172,8 @@ design_one one text a b h k =
     (in-turn-one SaysRegion (region_one one) _ a.regions b.regions h.regions k.regions)
 
 -- What the units that were held say is the text's record.
-pub design_read : (text : List ℕ) (held : Held) (x : Unit {0}) (r : Result Design (ReadError DefKind)) →
-    ReadsRecord {R = Unit {0}} kinds LefDef text (format true) (λ units told. Holds units held) (Ok x) →
-    ((units : List (List Token)) → HoldsSaid units held.said → IfOk r (IsDesign units)) → IfErr r (λ error. error.kind ≡ Want) → ReadsDesign text r
-design_read text held x (Ok design) h told want = (h.0, h.1, h.2, h.3, told h.2 h.4.said)
-design_read text held x (Err error) h told want = inl want
+pub design_read : (wiring : Bool) (text : List ℕ) (held : Held) (x : Unit {0}) (r : Result Design (ReadError DefKind)) →
+    ReadsRecord {R = Unit {0}} kinds LefDef text (format wiring) (λ units told. Holds units held) (Ok x) →
+    ((units : List (List Token)) → HoldsSaid units held.said → IfOk r (IsDesign units)) → IfErr r (λ error. error.kind ≡ Want) → ReadsText wiring text r
+design_read wiring text held x (Ok design) h told want = (h.0, h.1, h.2, h.3, told h.2 h.4.said)
+design_read wiring text held x (Err error) h told want = inl want

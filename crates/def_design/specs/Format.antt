@@ -1,5 +1,5 @@
 -- The text of a design as a format, and what reading one gives.
-use Rattle.std.specs.Prelude.{ℕ, Bool, true, List, Result}
+use Rattle.std.specs.Prelude.{ℕ, Bool, true, false, List, Result}
 use Rattle.def_design.specs.declared.error.DefKind.{DefKind}
 use Rattle.def_design.specs.declared.error.DefKind.TheVariants.{Syntax, BadString, Want}
 use Rattle.def_design.specs.declared.record.Design.{Design}
@@ -29,6 +29,14 @@ format wiring = record {
 abbrev pub kinds : Kinds DefKind
 kinds = record { syntax = Syntax; want = Want; word = λ kind. BadString }
 
--- The record of the text's one list of units, or its one refusal with place and kind. Wires are refused.
+-- The record of the text's one list of units, or its one refusal with place and kind. Wires are refused where `wiring` is.
+abbrev pub ReadsText : Bool → List ℕ → Result Design (ReadError DefKind) → Type 0
+ReadsText wiring bytes result = ReadsRecord kinds LefDef bytes (format wiring) IsDesign result
+
+-- The same of a design whose special nets have no wires yet: a wire is refused.
 abbrev pub ReadsDesign : List ℕ → Result Design (ReadError DefKind) → Type 0
-ReadsDesign bytes result = ReadsRecord kinds LefDef bytes (format true) IsDesign result
+ReadsDesign bytes result = ReadsText true bytes result
+
+-- The same of a design whose special nets may have wires, which are passed over.
+abbrev pub ReadsPlaced : List ℕ → Result Design (ReadError DefKind) → Type 0
+ReadsPlaced bytes result = ReadsText false bytes result

@@ -1,7 +1,8 @@
 //! A placed design in DEF: its die, rows, components, blockages and regions.
 //!
 //! `read_design` reads the text of one design (LEF/DEF 5.8 Language Reference, "DEF Syntax"), and passes over what a
-//! drawing of its power grid does not ask for. A design whose special nets have wires is refused.
+//! drawing of its power grid does not ask for. A design whose special nets have wires is refused. `read_placed` passes over
+//! the wires too.
 #![tactic(auto)]
 
 mod blockages;
@@ -22,7 +23,7 @@ mod rows;
 mod top;
 
 pub use error::{DefError, DefKind, Item};
-pub use laws::texts_have_one_design;
+pub use laws::{texts_have_one_design, texts_have_one_placed_design};
 pub use number::{NUMBER_LIMIT, UNITS_LIMIT};
-pub use read::read_design;
+pub use read::{read_design, read_placed};
 pub use record::{Blockage, Component, Design, Fence, Row};

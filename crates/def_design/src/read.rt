@@ -1,5 +1,5 @@
 ghost use Rattle.std.specs.Prelude.{◌≡◌, List, IfOk, IfErr};
-ghost use Rattle.def_design.specs.Format.{ReadsDesign};
+ghost use Rattle.def_design.specs.Format.{ReadsText, ReadsDesign, ReadsPlaced};
 ghost use Rattle.def_design.specs.Limits.{DesignKeeps};
 ghost use Rattle.def_design.specs.Record.{IsDesign};
 ghost use Rattle.def_design.specs.inside.Held.{HoldsSaid};
@@ -15,7 +15,22 @@ use reading::{ReadError, read_into};
 use std::alloc::Global;
 use text_lex::Mode;
 
-/// Reads a placed design in DEF.
+/// Reads the text of a design, whose wires are refused where `wiring_refused` is.
+fn read_text(alloc: Global, text: &[u8], wiring_refused: bool) -> Result<Design, DefError>
+    ensures reads { ReadsText wiring_refused text.now result }
+    ensures keeps { IfOk result DesignKeeps }
+{
+    let Ok(mut held) = Held::new(alloc) else {
+        return Err(ReadError::want());
+    };
+    let format = DesignFormat { wiring_refused };
+    match read_into(alloc, &format, &mut held, text, Mode::LefDef) {
+        Ok(()) => design_of(held.said),
+        Err(error) => Err(error),
+    }
+}
+
+/// Reads a placed design in DEF whose special nets have no wires yet.
 ///
 /// It takes the name, the units of a micrometre, the die, which is a rectangle, the rows, the components with their
 /// places, the rectangles of the blockages, and the regions. Numbers are whole, at most 2^30 from 0. All else is
@@ -28,16 +43,18 @@ pub fn read_design(alloc: Global, text: &[u8]) -> Result<Design, DefError>
     ensures reads { ReadsDesign text.now result }
     ensures keeps { IfOk result DesignKeeps }
 {
-    let Ok(mut held) = Held::new(alloc) else {
-        return Err(ReadError::want());
-    };
-    let format = DesignFormat {
-        wiring_refused: true,
-    };
-    match read_into(alloc, &format, &mut held, text, Mode::LefDef) {
-        Ok(()) => design_of(held.said),
-        Err(error) => Err(error),
-    }
+    read_text(alloc, text, true)
+}
+
+/// Reads a placed design in DEF whose special nets may have wires: what `read_design` reads, with the wires passed over as
+/// other parts of a net are.
+///
+/// Errors: those of `read_design` but for `AlreadyRouted`.
+pub fn read_placed(alloc: Global, text: &[u8]) -> Result<Design, DefError>
+    ensures reads { ReadsPlaced text.now result }
+    ensures keeps { IfOk result DesignKeeps }
+{
+    read_text(alloc, text, false)
 }
 
 /// The record of what the units say. What a design has to say stands where the text has ended.

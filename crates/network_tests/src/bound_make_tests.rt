@@ -2,6 +2,8 @@ use bound_check::{Certified, is_certificate, is_tight};
 use bound_make::*;
 use grid_net::hostile::{Alternating, Everywhere, Filling};
 use grid_net::{Fixed, Load, Net, Pad, Resistor, Solver};
+use level_region::Region;
+use std::marker::Model;
 use std::process::Abort;
 
 /// An ohm, in nano-ohms.
@@ -280,4 +282,50 @@ fn random_networks(rt: HostRuntime) {
         let mut solver = Fixed::new(high, low);
         let _made = certified(&rt, net, &mut solver);
     }
+}
+
+/// Proposes nothing, takes all of the region, and remembers the least that there was of it.
+#[derive(Drop)]
+struct Taking {
+    least: usize,
+    proposals: u64,
+}
+
+impl Model for Taking {
+    ghost use Rattle.std.specs.Prelude.{ℕ};
+
+    ghost Value = { ℕ };
+
+    ghost view = { λ solver. solver.proposals };
+}
+
+impl Solver for Taking {
+    ghost use Rattle.std.specs.Prelude.{None};
+
+    ghost told = { λ _. None };
+
+    ghost proposals = { λ solver. solver };
+
+    fn propose(&mut self, _net: &Net, work: &mut Region, _x: &mut [i128], _w: &mut [i128]) {
+        self.proposals = self.proposals.saturating_add(1);
+        let left = work.left();
+        self.least = self.least.min(left);
+        let _taken = work.cut(left);
+    }
+}
+
+#[test]
+fn each_proposal_has_the_whole_region(rt: HostRuntime) {
+    let net = small_grid(&rt);
+    match net.supply() {
+        Ok(()) => {}
+        Err(_) => panic!(rt; "a node that is not supplied"),
+    }
+    let mut solver = Taking {
+        least: usize::MAX,
+        proposals: 0,
+    };
+    certify_halves(rt.alloc(), &net, &net, &mut solver).expect(&rt, "two lists");
+    let cells = 16 * net.nodes() as usize + 8 * net.resistors().len() + 64;
+    assert!(rt; cells <= solver.least, "{} cells of {cells}", solver.least);
 }

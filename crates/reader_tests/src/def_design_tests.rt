@@ -364,3 +364,41 @@ fn lef_and_def_refusals(rt: HostRuntime) {
         );
     }
 }
+
+/// Special nets with wires of each kind, and what stands behind them.
+const ROUTED: [&[u8]; 4] = [
+    b"SPECIALNETS 1 ; - VDD + ROUTED m1 200 ( 0 0 ) ( 1 0 ) v NEW m2 0 ( 0 0 ) v ; END SPECIALNETS",
+    b"SPECIALNETS 1 ; - VDD + COVER m1 200 + SHAPE RING ( 0 0 5 ) ( * 1 ) + USE POWER ; END SPECIALNETS",
+    b"SPECIALNETS 1 ; - VDD + FIXED m1 200 ( 0 0 ) ( 0 1 ) + RECT m1 ( 0 0 ) ( 1 1 ) ; END SPECIALNETS",
+    b"SPECIALNETS 2 ; - VDD + POLYGON m1 ( 0 0 ) ( 1 0 ) ( 1 1 ) ; - VSS + ROUTED m1 ; END SPECIALNETS",
+];
+
+#[test]
+fn wires_of_a_placed_design_are_passed_over(rt: HostRuntime) -> Result<(), Fail> {
+    for wires in &ROUTED {
+        let mut middle = Vec::from_slice(rt.alloc(), wires)?;
+        middle.extend_from_slice(b" COMPONENTS 1 ; - u c ; END COMPONENTS")?;
+        let text = design_with(rt.alloc(), &middle)?;
+        let design = read_placed(rt.alloc(), &text)?;
+        assert_eq!(rt; design.components.as_slice().len(), 1);
+        let refused = read_design(rt.alloc(), &text).err();
+        assert!(rt;
+            refused.is_some_and(|error| error.kind == AlreadyRouted),
+            "at {wires:?}"
+        );
+    }
+    for (text, line, word, kind) in &REFUSED {
+        let place = Place {
+            line: *line,
+            word: *word,
+        };
+        if *kind != AlreadyRouted {
+            assert_eq!(rt;
+                read_placed(rt.alloc(), text).err(),
+                Some(DefError { place, kind: *kind }),
+                "at {text:?}"
+            );
+        }
+    }
+    Ok(())
+}

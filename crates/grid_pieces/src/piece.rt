@@ -19,8 +19,9 @@ pub struct Piece {
     pub shape: Shape,
 }
 
-/// A stack of a net at a crossing of two pieces: `x` and `y` are where their centre lines cross, and `crossing` is the
-/// rectangle in both, in units of a drawing.
+/// A stack of a net, in units of a drawing. Of a grid that is drawn it stands at a crossing of two pieces: `x` and `y` are
+/// where their centre lines cross, and `crossing` is the rectangle in both. Of wiring that is there already it stands where
+/// its vias do, and `crossing` is the smallest rectangle that holds their metal.
 #[derive(Debug, Drop)]
 pub struct StackAt {
     /// The place of the net in the list of nets.

@@ -1,4 +1,4 @@
--- The first stage, which `check` and `solve` share: the text of a netlist is read, and its shorts are merged.
+-- The first stage, which `check`, `solve` and `step` share: the text of a netlist is read, and its shorts are merged.
 use Rattle.std.specs.Prelude.{◌≡◌, ◌⊎◌, ⊤, ℕ, List}
 use Rattle.grid_net.specs.Limits.{IsBuilt}
 use Rattle.short_merge.specs.declared.merged.Merged.{Merged}

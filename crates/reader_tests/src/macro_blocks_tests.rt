@@ -307,3 +307,42 @@ fn refused_texts(rt: HostRuntime) {
         );
     }
 }
+
+/// Two libraries as one: the first one's macros, and those of the second whose names the first has not.
+const JOINED_SAY: [SaidMacro; 4] = [
+    SaidMacro {
+        name: b"a",
+        pins: &[SaidPin {
+            name: b"p",
+            power: true,
+            rects: &[],
+        }],
+        obstructions: &[],
+    },
+    SaidMacro {
+        name: b"b",
+        pins: &[],
+        obstructions: &[],
+    },
+    SaidMacro {
+        name: b"c",
+        pins: &[],
+        obstructions: &[],
+    },
+    SaidMacro {
+        name: b"c",
+        pins: &[],
+        obstructions: &[],
+    },
+];
+
+#[test]
+fn libraries_that_are_joined(rt: HostRuntime) -> Result<(), Fail> {
+    let first = b"MACRO a PIN p USE POWER ; END p END a MACRO b END b";
+    let second =
+        b"MACRO b PIN q USE GROUND ; END q END b MACRO c END c MACRO a END a MACRO c END c";
+    let first = read_blocks(rt.alloc(), first)?;
+    let second = read_blocks(rt.alloc(), second)?;
+    compare(&rt, &first.join(second)?, &JOINED_SAY);
+    Ok(())
+}

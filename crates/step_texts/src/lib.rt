@@ -1,6 +1,6 @@
 //! The texts of bounds over time: the certificate and the report of a high and a low list for each step.
 //!
-//! Units: voltages in yoctovolts; the report prints nanovolts, rounded outward.
+//! Units: voltages in yoctovolts; the report prints volts with nine places, rounded outward.
 #![tactic(auto)]
 
 mod certificate;

@@ -7,7 +7,7 @@ use text_lex::LexKind;
 /// Why a wave file is refused, and at which word.
 pub type WavesError = ReadError<WavesKind>;
 
-/// What is wrong with the word. Of two kinds at one word the one that stands earlier here is told.
+/// What is wrong with the word. No word shows two of them.
 #[derive(Clone, Copy, Debug, PartialEq, Eq)]
 pub enum WavesKind {
     /// With this word the words so far begin no wave file, or it is no whole number from 1 to 1000 where a step stands.

@@ -1,8 +1,10 @@
-//! Tests of the layers between the texts and the program: files, refusals, solving and stepping.
+//! Tests of the layers between the texts and the program: the words of a command, files, refusals, solving and stepping.
 //!
 //! They stand in a crate of their own, since a crate that has tests is proved once more with them.
 #![tactic(auto)]
 
+#[cfg(test)]
+mod command_words_tests;
 #[cfg(test)]
 mod grid_gen_tests;
 #[cfg(test)]

@@ -1,12 +1,10 @@
-//! Tests of the words of texts, of the readers that stand on them, and of the words of a command.
+//! Tests of the words of texts, and of the readers that stand on them.
 //!
 //! They stand in a crate of their own, since a crate that has tests is proved once more with them.
 #![tactic(auto)]
 
 #[cfg(test)]
 mod bias_file_tests;
-#[cfg(test)]
-mod command_words_tests;
 #[cfg(test)]
 mod def_design_tests;
 #[cfg(test)]

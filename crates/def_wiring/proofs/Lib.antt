@@ -1,0 +1,4 @@
+pub mod Numbers
+pub mod Late
+pub mod Words
+pub mod Law

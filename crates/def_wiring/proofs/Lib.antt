@@ -2,3 +2,7 @@ pub mod Numbers
 pub mod Late
 pub mod Words
 pub mod Law
+pub mod Showing
+pub mod Taking
+pub mod Limits
+pub mod One

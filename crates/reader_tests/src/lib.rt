@@ -10,6 +10,8 @@ mod command_words_tests;
 #[cfg(test)]
 mod def_design_tests;
 #[cfg(test)]
+mod def_wiring_tests;
+#[cfg(test)]
 mod fixed_decimal_tests;
 #[cfg(test)]
 mod lef_cells_tests;

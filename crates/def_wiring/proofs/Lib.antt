@@ -3,6 +3,7 @@ pub mod Late
 pub mod Words
 pub mod Law
 pub mod Showing
+pub mod Faults
 pub mod Taking
 pub mod Limits
 pub mod One

@@ -1,5 +1,5 @@
 -- One more unit.
-use Rattle.std.proofs.Common.{◌≡◌, ℕ, Bool, List, [], ◌∷◌, ◌++◌, map, All, Contains, Option, Some, None, Result, Ok, Err, OnOk, refl, sym, ◌∙◌, ap, subst}
+use Rattle.std.proofs.Common.{◌≡◌, ◌<◌, ◌≤◌, ℕ, Bool, length, arith, List, [], ◌∷◌, ◌++◌, map, All, Contains, Option, Some, None, Result, Ok, Err, OnOk, refl, sym, ◌∙◌, ap, subst}
 use Rattle.std.proofs.lemmas.List.{append-nil, map_push}
 use Rattle.std.proofs.lemmas.List.Elements.{All-nil, All-weaker, All-push, Contains-append_left}
 use Rattle.std.specs.declared.alloc.AllocError.{AllocError}
@@ -19,12 +19,15 @@ use Rattle.def_wiring.specs.declared.record.ViaDef.{ViaDef}
 use Rattle.def_wiring.specs.declared.record.ViaPlace.{ViaPlace}
 use Rattle.def_wiring.specs.declared.record.WiredNet.{WiredNet}
 use Rattle.def_wiring.specs.declared.section.Section.{Section}
+use Rattle.def_wiring.specs.declared.section.Section.TheVariants as places
+use Rattle.def_wiring.specs.declared.sort.Sort.{Sort}
+use Rattle.def_wiring.specs.declared.sort.Sort.TheVariants as sorts
 use Rattle.def_wiring.specs.declared.standing.Standing.{Standing}
 use Rattle.def_wiring.specs.Fault.{AskedFault, WordFault, IsFirstLate, NoneLate}
 use Rattle.def_wiring.specs.inside.Held.{IsLate, WhileFine, net_said, Tells, Holds, Leads, Notes, Unites}
 use Rattle.def_wiring.specs.Limits.{IsKnown, NetKnown}
 use Rattle.def_wiring.specs.Path.{point_of}
-use Rattle.def_wiring.specs.Record.{SaidVia, SaidSegment, SaidPlace, SaidNet, Asked, Said, Heard, SaysVia, SaysSegment, SaysPlace, SaysNet, segment_from, place_of, net_of, cleared, said_name, said_by, noted, said_unit, known_vias, heard_after, heard_from, heard_of}
+use Rattle.def_wiring.specs.Record.{SaidVia, SaidSegment, SaidPlace, SaidNet, Asked, Said, Heard, SaysVia, SaysSegment, SaysPlace, SaysNet, segment_from, place_of, net_of, cleared, said_name, said_by, noted, opened_via, opened_net, said_unit, known_vias, heard_after, heard_from, heard_of}
 use Rattle.def_wiring.specs.Standing.{standing_after, section_in}
 use Rattle.def_wiring.proofs.Late.{late_stays, late_more, fine_more, late_of_none}
 use Rattle.reading.specs.Word.{Token}
@@ -55,6 +58,10 @@ taken units unit old new h goes unites =
 pub took : (r : Result (Unit {0}) AllocError) (A B : Type 0) → (A → B) → OnOk r A → OnOk r B
 took (Ok x) A B f h = f h
 took (Err e) A B f h = tt
+
+pub took_both : (r : Result (Unit {0}) AllocError) (A B C : Type 0) → (A → B → C) → OnOk r A → OnOk r B → OnOk r C
+took_both (Ok x) A B C f h k = f h k
+took_both (Err e) A B C f h k = tt
 
 -- ## lists of entries
 
@@ -369,3 +376,51 @@ other_ended there word old now none clears said before =
       known = h.known;
       nets_known = h.nets_known;
     }
+
+-- ## units that say nothing
+
+pub same_act : (act : Act) → (act ≡ acts.EndsVia → ⊥) → (act ≡ acts.Point → ⊥) → (act ≡ acts.Place → ⊥) → (act ≡ acts.EndsNet → ⊥) →
+    (there : Standing) (word : Token) (said : Said) → said_by act there word said ≡ said
+same_act acts.EndsVia a b c d there word said = absurd (a refl)
+same_act acts.Point a b c d there word said = absurd (b refl)
+same_act acts.Place a b c d there word said = absurd (c refl)
+same_act acts.EndsNet a b c d there word said = absurd (d refl)
+same_act act a b c d there word said = refl
+
+pub same_one : (section : Section) → (section ≡ places.Via → ⊥) → (section ≡ places.Net → ⊥) → (there : Standing) (word : Token) (said : Said) →
+    said_unit section there (word ∷ []) said ≡ said
+same_one places.Via a b there word said = absurd (a refl)
+same_one places.Net a b there word said = absurd (b refl)
+same_one section a b there word said = refl
+
+pub same_two : (section : Section) → (section ≡ places.Vias → ⊥) → (section ≡ places.Nets → ⊥) → (there : Standing) (first second : Token) (said : Said) →
+    said_unit section there (first ∷ second ∷ []) said ≡ said
+same_two places.Vias a b there first second said = absurd (a refl)
+same_two places.Nets a b there first second said = absurd (b refl)
+same_two section a b there first second said = refl
+
+pub same_none : (section : Section) (there : Standing) (unit : List Token) (said : Said) → length unit < 1 → said_unit section there unit said ≡ said
+same_none places.Via there [] said h = refl
+same_none places.Net there [] said h = refl
+same_none places.Vias there [] said h = refl
+same_none places.Nets there [] said h = refl
+same_none section there [] said h = refl
+same_none section there (a ∷ unit) said h = absurd (omega arith)
+
+pub same_long : (section : Section) (there : Standing) (unit : List Token) (said : Said) → 3 ≤ length unit → said_unit section there unit said ≡ said
+same_long section there [] said h = absurd (omega arith)
+same_long section there (a ∷ []) said h = absurd (omega arith)
+same_long section there (a ∷ b ∷ []) said h = absurd (omega arith)
+same_long places.Via there (a ∷ b ∷ c ∷ unit) said h = refl
+same_long places.Net there (a ∷ b ∷ c ∷ unit) said h = refl
+same_long places.Vias there (a ∷ b ∷ c ∷ unit) said h = refl
+same_long places.Nets there (a ∷ b ∷ c ∷ unit) said h = refl
+same_long section there (a ∷ b ∷ c ∷ unit) said h = refl
+
+pub not_minus_via : (first : Sort) → (first ≡ sorts.Minus → ⊥) → (name : Token) (said : Said) → opened_via first name said ≡ said
+not_minus_via sorts.Minus a name said = absurd (a refl)
+not_minus_via first a name said = refl
+
+pub not_minus_net : (first : Sort) → (first ≡ sorts.Minus → ⊥) → (name : Token) (said : Said) → opened_net first name said ≡ said
+not_minus_net sorts.Minus a name said = absurd (a refl)
+not_minus_net first a name said = refl

@@ -281,6 +281,26 @@ impl<'a> Sections<'a> {
         }
     }
 
+    /// Two words of VIAS.
+    fn take_via_head(&mut self, first: Sort, second: &Word<'a>) -> Result<(), AllocError>
+        ensures { OnOk result ((said : Said) → Tells said self.old → Tells (opened_via first (token second.now) said) self.new) }
+    {
+        match first {
+            Sort::Minus => self.open_via(second),
+            _ => Ok(()),
+        }
+    }
+
+    /// Two words of SPECIALNETS.
+    fn take_net_head(&mut self, first: Sort, second: &Word<'a>) -> Result<(), AllocError>
+        ensures { OnOk result ((said : Said) → Tells said self.old → Tells (opened_net first (token second.now) said) self.new) }
+    {
+        match first {
+            Sort::Minus => self.open_net(second),
+            _ => Ok(()),
+        }
+    }
+
     /// A unit of two words.
     fn take_two(
         &mut self,
@@ -291,9 +311,9 @@ impl<'a> Sections<'a> {
         ensures { OnOk result ((there : There) (word : Token) → first ≡ sort_of word → (said : Said) → Tells said self.old →
             Tells (said_unit section there (word ∷ token second.now ∷ []) said) self.new) }
     {
-        match (section, first) {
-            (Section::Vias, Sort::Minus) => self.open_via(second),
-            (Section::Nets, Sort::Minus) => self.open_net(second),
+        match section {
+            Section::Vias => self.take_via_head(first, second),
+            Section::Nets => self.take_net_head(first, second),
             _ => Ok(()),
         }
     }

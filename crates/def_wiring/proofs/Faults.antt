@@ -9,10 +9,12 @@ use Rattle.def_wiring.specs.declared.error.WiresKind.{WiresKind}
 use Rattle.def_wiring.specs.declared.error.WiresKind.TheVariants as kinds
 use Rattle.def_wiring.specs.declared.path.Path.{Path}
 use Rattle.def_wiring.specs.declared.path.Point.{Point}
+use Rattle.def_wiring.specs.declared.number.Quantity.TheVariants.{Any}
 use Rattle.def_wiring.specs.declared.sort.Sort.{Sort}
+use Rattle.def_wiring.specs.declared.sort.Sort.TheVariants as sorts
 use Rattle.def_wiring.specs.Fault.{CoordinateFault, SlantFault, WordFault, NoneLate, IsFirstLate, shown_as, LateFault, HasNumbers, ViaEndFault, ViaPartFault}
 use Rattle.def_wiring.specs.inside.Held.{IsLate}
-use Rattle.def_wiring.specs.Number.{IsOther}
+use Rattle.def_wiring.specs.Number.{NumberFault}
 use Rattle.def_wiring.specs.Path.{last_y, coordinate}
 use Rattle.def_wiring.specs.Record.{Asked}
 use Rattle.def_wiring.specs.Sort.{sort_of}
@@ -22,17 +24,16 @@ use Rattle.reading.specs.Word.{Token}
 
 -- ## a point
 
-pub straight_x : (last : Option Point) (point : Point) (x y : List ℕ) → last ≡ Some point → (IsOther point.x x → ⊥) → Finds (SlantFault last x y) None
-straight_x (Some other) point x y e no kind h = no (subst (λ (z : Point). IsOther z.x x) (let t : ◌≡◌ {A = Option Point} (Some other) (Some point) = e in cc) h.0)
-straight_x None point x y e no kind h = h
+pub not_true : (b : Bool) → b ≡ false → b ≡ true → ⊥
+not_true true e f = let t : true ≡ false = e in cc
+not_true false e f = let t : false ≡ true = f in cc
 
-pub straight_y : (last : Option Point) (point : Point) (x y : List ℕ) → last ≡ Some point → (IsOther point.y y → ⊥) → Finds (SlantFault last x y) None
-straight_y (Some other) point x y e no kind h = no (subst (λ (z : Point). IsOther z.y y) (let t : ◌≡◌ {A = Option Point} (Some other) (Some point) = e in cc) h.1)
-straight_y None point x y e no kind h = h
-
-pub slanted : (last : Option Point) (point : Point) (x y : List ℕ) → last ≡ Some point → IsOther point.x x → IsOther point.y y →
-    SlantFault last x y kinds.WireForm
-slanted last point x y e h k = subst (λ (z : Option Point). SlantFault z x y kinds.WireForm) (sym e) (h, k, refl)
+-- A coordinate but `*` is a number.
+pub not_star : (last : Option Point) (sort : Sort) → (sort ≡ sorts.Star → ⊥) → (text : List ℕ) (kind : Option WiresKind) → Finds (NumberFault Any text) kind →
+    Finds (CoordinateFault last sort text) kind
+not_star None sorts.Star apart text kind h = absurd (apart refl)
+not_star (Some point) sorts.Star apart text kind h = absurd (apart refl)
+not_star last sort apart text kind h = h
 
 -- A second coordinate shows what it shows for itself, and else what the segment does.
 pub second_itself : (vias : List (List ℕ)) (path : Path) (sort : Sort) (text : List ℕ) (word : Token) (kind : WiresKind) → sort ≡ sort_of word → text ≡ word.text →

@@ -182,8 +182,8 @@ via_one one acts.EndsVia vias asked words = via_end_one one vias asked words
 via_one one acts.NoVia vias asked words = via_part_one one vias asked words
 via_one one act vias asked words = none_one
 
-net_one : HasOne → (power use : Option Bool) (vias : List (List ℕ)) (before : List Asked) (asked : Asked) → IsOne (NetFault power use vias before asked)
-net_one one (Some power) use vias before asked = at_word_one (AskedFault vias asked) (asked_one one vias asked)
+net_one : HasOne → (power tells : Option Bool) (vias : List (List ℕ)) (before : List Asked) (asked : Asked) → IsOne (NetFault power tells vias before asked)
+net_one one (Some power) tells vias before asked = at_word_one (AskedFault vias asked) (asked_one one vias asked)
 net_one one None (Some power) vias before asked = late_one one vias before
 net_one one None None vias before asked = none_one
 

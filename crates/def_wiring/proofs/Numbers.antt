@@ -1,5 +1,5 @@
 -- Numbers: those that are refused, and those that are read.
-use Rattle.std.proofs.Common.{◌≡◌, ◌≤◌, ◌↔◌, IsTrue, Bool, true, false, ℕ, ℤ, List, Result, Ok, Err, sym, ◌∙◌, ap}
+use Rattle.std.proofs.Common.{◌≡◌, ◌≤◌, ◌↔◌, IsTrue, Bool, true, false, not, refl, ℕ, ℤ, List, Result, Ok, Err, sym, ◌∙◌, ap}
 use Rattle.std.specs.Prelude.{unsigned_abs}
 use Rattle.def_wiring.specs.declared.error.WiresKind.{WiresKind}
 use Rattle.def_wiring.specs.declared.number.Quantity.{Quantity}
@@ -53,8 +53,13 @@ pub other_none : (one other : List ℕ) (r : Refused) → IsOnly (place_of Any) 
 other_none one other r only h = no_error r h.1 (sym (only (Ok h.1) h.3))
 
 -- Two numbers that are read differ where their values do.
-pub differ : (one other : List ℕ) (v w : ℤ) → IsNumber Any one v → IsNumber Any other w → (v ≡ w → ⊥) → IsOther one other
-differ one other v w h i apart = (v, w, h, i, apart)
-
-pub same : (one other : List ℕ) (v w : ℤ) → IsOnly (place_of Any) one (Ok v) → IsOnly (place_of Any) other (Ok w) → v ≡ w → IsOther one other → ⊥
-same one other v w only also e h = h.4 (ok_is h.0 v (only (Ok h.0) h.2) ∙ e ∙ sym (ok_is h.1 w (also (Ok h.1) h.3)))
+pub other_tells : (one other : List ℕ) (v w : ℤ) (equal : Bool) → IsTrue equal ↔ (v ≡ w) → IsNumber Any one v → IsNumber Any other w →
+    IsOnly (place_of Any) one (Ok v) → IsOnly (place_of Any) other (Ok w) → IsTrue (not equal) ↔ IsOther one other
+other_tells one other v w true tells h k only also = (
+  λ t. absurd (let f : false ≡ true = t in cc),
+  λ i. absurd (i.4 (ok_is i.0 v (only (Ok i.0) i.2) ∙ tells.0 refl ∙ sym (ok_is i.1 w (also (Ok i.1) i.3)))),
+)
+other_tells one other v w false tells h k only also = (
+  λ t. (v, w, h, k, λ e. let f : false ≡ true = tells.1 e in cc),
+  λ i. refl,
+)

@@ -1,6 +1,10 @@
 -- Units by the number of their words.
 use Rattle.std.proofs.Common.{◌≡◌, ◌<◌, ◌≤◌, List, [], ◌∷◌, length, get_or, refl, ap, arith}
+use Rattle.def_wiring.specs.declared.section.Section.{Section}
+use Rattle.def_wiring.specs.declared.standing.Standing.{Standing}
+use Rattle.def_wiring.specs.Standing.{after_words}
 use Rattle.reading.specs.declared.word.Word.{Word}
+use Rattle.reading.specs.Word.{Token}
 use Rattle.reading.specs.declared.word.Form.TheVariants.{Bare}
 
 abbrev pub no_word : Word
@@ -22,3 +26,15 @@ pub three_words : (xs : List Word) → 3 ≤ length xs → length xs < 4 →
     xs ≡ get_or xs 0 no_word ∷ get_or xs 1 no_word ∷ get_or xs 2 no_word ∷ []
 three_words [] h k = absurd (omega arith)
 three_words (x ∷ xs) h k = ap (λ z. x ∷ z) (two_words xs (omega arith) (omega arith))
+
+-- Units of no words and of more words lead nowhere else.
+pub stays_none : (section : Section) (unit : List Token) (standing : Standing) → length unit < 1 → standing ≡ after_words section unit standing
+stays_none section [] standing h = refl
+stays_none section (a ∷ unit) standing h = absurd (omega arith)
+
+pub stays_long : (section : Section) (unit : List Token) (standing : Standing) → 4 ≤ length unit → standing ≡ after_words section unit standing
+stays_long section [] standing h = absurd (omega arith)
+stays_long section (a ∷ []) standing h = absurd (omega arith)
+stays_long section (a ∷ b ∷ []) standing h = absurd (omega arith)
+stays_long section (a ∷ b ∷ c ∷ []) standing h = absurd (omega arith)
+stays_long section (a ∷ b ∷ c ∷ d ∷ unit) standing h = refl

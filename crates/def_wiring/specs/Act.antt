@@ -55,10 +55,13 @@ asked_act None sort = passes sort
 
 -- What a word of this sort does after so many words of an entry of VIAS: it ends a generated via, begins a part of one
 -- that is not read, belongs to its form, or shows that the entry is another one.
+abbrev pub inner_act : ℕ → Sort → Act
+inner_act words sort =
+    if is_more words && the sorts.Unread sort then acts.NoVia else asked_act (slice_get via_form words) sort
+
 abbrev pub via_act : ℕ → Sort → Act
 via_act words sort =
-    if is_whole words && the sorts.Semicolon sort then acts.EndsVia
-    else (if is_more words && the sorts.Unread sort then acts.NoVia else asked_act (slice_get via_form words) sort)
+    if is_whole words && the sorts.Semicolon sort then acts.EndsVia else inner_act words sort
 
 -- ## an entry of SPECIALNETS
 --

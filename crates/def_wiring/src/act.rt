@@ -1,7 +1,8 @@
 //! What a word of an entry does there.
-ghost use Rattle.std.specs.Prelude.{◌≡◌, if◌then◌else◌};
+ghost use Rattle.std.specs.Prelude.{◌≡◌, ◌&&◌, slice_get, if◌then◌else◌};
 ghost use Rattle.def_wiring.specs.Rule.{is_name, is_number};
-ghost use Rattle.def_wiring.specs.Act.{via_form, is_whole, is_more, takes, kept, passes, asked_act, via_act, in_parts, in_part, in_layer, in_width, in_head, in_head_part, in_shape, in_first, in_first_part, in_x, in_y, in_reach, in_close, in_one, in_whole, in_more, in_turned, in_placed, in_lost, in_stage, broken, net_act};
+ghost use Rattle.def_wiring.specs.Sort.{the};
+ghost use Rattle.def_wiring.specs.Act.{via_form, is_whole, is_more, takes, kept, passes, asked_act, inner_act, via_act, in_parts, in_part, in_layer, in_width, in_head, in_head_part, in_shape, in_first, in_first_part, in_x, in_y, in_reach, in_close, in_one, in_whole, in_more, in_turned, in_placed, in_lost, in_stage, broken, net_act};
 
 use crate::rule::{is_name, is_number};
 use crate::sort::{Sort, is_the};
@@ -181,17 +182,50 @@ fn asked_act(ask: Option<Ask>, sort: Sort) -> Act
     }
 }
 
+/// What is asked for after so many words.
+fn ask_at(words: usize) -> Option<Ask>
+    ensures { result ≡ slice_get via_form words }
+{
+    match VIA_FORM.get(words) {
+        Some(ask) => Some(*ask),
+        None => None,
+    }
+}
+
+/// Whether a word ends a generated via.
+fn ends_via(words: usize, sort: Sort) -> bool
+    ensures { result ≡ (is_whole words && the Sort.Semicolon sort) }
+{
+    is_whole(words) && is_the(Sort::Semicolon, sort)
+}
+
+/// Whether a word begins a part of a generated via that is not read.
+fn is_unread(words: usize, sort: Sort) -> bool
+    ensures { result ≡ (is_more words && the Sort.Unread sort) }
+{
+    is_more(words) && is_the(Sort::Unread, sort)
+}
+
+/// What a word does after so many words of an entry of VIAS, where it does not end a generated via.
+fn inner_act(words: usize, sort: Sort) -> Act
+    ensures { result ≡ inner_act words sort }
+{
+    if is_unread(words, sort) {
+        Act::NoVia
+    } else {
+        asked_act(ask_at(words), sort)
+    }
+}
+
 /// What a word does after so many words of an entry of VIAS.
 pub(crate) fn via_act(words: usize, sort: Sort) -> Act
     ensures { result ≡ via_act words sort }
 {
-    if is_whole(words) && is_the(Sort::Semicolon, sort) {
-        return Act::EndsVia;
+    if ends_via(words, sort) {
+        Act::EndsVia
+    } else {
+        inner_act(words, sort)
     }
-    if is_more(words) && is_the(Sort::Unread, sort) {
-        return Act::NoVia;
-    }
-    asked_act(VIA_FORM.get(words).copied(), sort)
 }
 
 fn in_parts(sort: Sort) -> Act

@@ -1,5 +1,5 @@
 //! The faults that the words of a unit show.
-ghost use Rattle.std.specs.Prelude.{◌≡◌, ◌↔◌, ℕ, List, None, IsTrue};
+ghost use Rattle.std.specs.Prelude.{◌≡◌, ◌↔◌, ℕ, List, Some, None, IsTrue};
 ghost use Rattle.def_wiring.specs.Fault.{CoordinateFault, SlantFault, UnknownFault, WordFault, shown_as, AtWord, LateFault, HasNumbers, ViaEndFault, ViaPartFault, ViaFault, NetFault, FirstFault, TwiceFault, CountFault, SecondFault};
 ghost use Rattle.def_wiring.specs.Record.{Asked, Said};
 ghost use Rattle.def_wiring.specs.Sort.{sort_of};
@@ -43,17 +43,26 @@ fn star_fault(last: &Option<Point<'_>>) -> Option<WiresKind>
     }
 }
 
-/// Why a second coordinate is refused after the first: the segment is slanted.
+/// Why the second coordinate of a point is refused after this one: the segment is slanted.
+fn slanted(point: &Point<'_>, x: &[u8], y: &[u8]) -> Option<WiresKind>
+    ensures { Finds (SlantFault (Some point.now) x.now y.now) result }
+{
+    if !is_other(point.x.bytes(), x) {
+        return None;
+    }
+    if !is_other(point.y.bytes(), y) {
+        return None;
+    }
+    Some(WiresKind::WireForm)
+}
+
+/// Why a second coordinate is refused after the first.
 fn slant_fault(last: &Option<Point<'_>>, x: &[u8], y: &[u8]) -> Option<WiresKind>
     ensures { Finds (SlantFault last.now x.now y.now) result }
 {
-    let Some(point) = last else {
-        return None;
-    };
-    if is_other(point.x.bytes(), x) && is_other(point.y.bytes(), y) {
-        Some(WiresKind::WireForm)
-    } else {
-        None
+    match last {
+        Some(point) => slanted(point, x, y),
+        None => None,
     }
 }
 
@@ -93,7 +102,8 @@ pub(crate) fn word_fault<'a>(
         Act::NoWire => Some(WiresKind::WireForm),
         Act::NoVia => Some(WiresKind::ViaForm),
         Act::Number => number_fault(Quantity::Any, word.text),
-        Act::Width | Act::Reach => number_fault(Quantity::NotNegative, word.text),
+        Act::Width => number_fault(Quantity::NotNegative, word.text),
+        Act::Reach => number_fault(Quantity::NotNegative, word.text),
         Act::X => coordinate_fault(&path.last, sort_of(word), word.text),
         Act::Y => second_fault_of(path, sort_of(word), word.text),
         Act::Place => unknown_fault(vias, word.text),
@@ -135,7 +145,10 @@ fn late_fault(late: Option<Late>) -> Option<Shown>
 fn has_numbers(words: &Words<'_>) -> bool
     ensures { IsTrue result ↔ HasNumbers words.now }
 {
-    via_numbers(words).is_ok()
+    match via_numbers(words) {
+        Ok(_) => true,
+        Err(_) => false,
+    }
 }
 
 /// What the `;` of a generated via shows.
@@ -256,7 +269,8 @@ fn count_fault(first: Sort, count: &Word<'_>) -> Option<WiresKind>
     ensures { Finds (CountFault first (token count.now)) result }
 {
     match first {
-        Sort::Vias | Sort::SpecialNets => number_fault(Quantity::NotNegative, count.text),
+        Sort::Vias => number_fault(Quantity::NotNegative, count.text),
+        Sort::SpecialNets => number_fault(Quantity::NotNegative, count.text),
         _ => None,
     }
 }

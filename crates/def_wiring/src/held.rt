@@ -165,17 +165,42 @@ impl<'a> Sections<'a> {
         add_entry(&mut self.vias, standing.name.bytes(), via)
     }
 
-    /// A point ends, and with it a segment if it is not the first one.
+    /// A point ends where no word has shown a fault, and with it a segment if it is not the first one.
+    fn draw(&mut self, alloc: Global, standing: &Standing<'a>) -> Result<(), AllocError>
+        requires { self.now.late ≡ None }
+        ensures { OnOk result ((word : Token) → Leads Act.Point standing.now word self.old self.new) }
+    {
+        match &standing.path.last {
+            Some(from) => {
+                let segment = segment_of(alloc, &standing.path, from)?;
+                self.segments.push(segment)?;
+                Ok(())
+            }
+            None => Ok(()),
+        }
+    }
+
+    /// A point ends.
     fn end_point(&mut self, alloc: Global, standing: &Standing<'a>) -> Result<(), AllocError>
         ensures { OnOk result ((word : Token) → Leads Act.Point standing.now word self.old self.new) }
     {
-        let None = self.late else {
-            return Ok(());
-        };
-        let Some(from) = &standing.path.last else {
-            return Ok(());
-        };
-        self.segments.push(segment_of(alloc, &standing.path, from)?)?;
+        match self.late {
+            Some(_) => Ok(()),
+            None => self.draw(alloc, standing),
+        }
+    }
+
+    /// A via is placed where no word has shown a fault.
+    fn add_place(&mut self, alloc: Global, path: &Path<'a>, via: &'a [u8]) -> Result<(), AllocError>
+        requires { self.now.late ≡ None }
+        ensures { OnOk result ((there : There) (word : Token) → there.path ≡ path.now → word.text ≡ via.now →
+            Leads Act.Place there word self.old self.new) }
+    {
+        if !self.vias.contains(via) {
+            return Err(AllocError);
+        }
+        let place = via_place(alloc, path, via)?;
+        self.places.push(place)?;
         Ok(())
     }
 
@@ -184,14 +209,10 @@ impl<'a> Sections<'a> {
         ensures { OnOk result ((there : There) (word : Token) → there.path ≡ path.now → word.text ≡ via.now →
             Leads Act.Place there word self.old self.new) }
     {
-        let None = self.late else {
-            return Ok(());
-        };
-        if !self.vias.contains(via) {
-            return Err(AllocError);
+        match self.late {
+            Some(_) => Ok(()),
+            None => self.add_place(alloc, path, via),
         }
-        self.places.push(via_place(alloc, path, via)?)?;
-        Ok(())
     }
 
     /// A net of power or ground ends.

@@ -6,7 +6,7 @@ ghost use Rattle.number_place.specs.Place.{IsNumberAt};
 ghost use Rattle.reading.specs.Fault.{Finds};
 
 use crate::error::WiresKind;
-use number_place::{NumberForm, NumberPlace, NumberSign, Refused, small_number_at, texts_have_one_number};
+use number_place::{NumberForm, NumberPlace, NumberSign, Refused, small_number_at};
 use std::alloc::AllocError;
 
 /// No number of a DEF is farther from 0.
@@ -84,16 +84,22 @@ pub(crate) fn number_fault(quantity: Quantity, text: &[u8]) -> Option<WiresKind>
     }
 }
 
+/// Whether the two values are one.
+fn is_equal(one: i64, other: i64) -> bool
+    ensures { IsTrue result ↔ (one ≡ other) }
+{
+    one == other
+}
+
 /// Whether the two texts are two different numbers.
 pub(crate) fn is_other(one: &[u8], other: &[u8]) -> bool
     ensures { IsTrue result ↔ IsOther one.now other.now }
 {
-    texts_have_one_number();
     match (
         read_number(Quantity::Any, one),
         read_number(Quantity::Any, other),
     ) {
-        (Ok(a), Ok(b)) => a != b,
+        (Ok(a), Ok(b)) => !is_equal(a, b),
         _ => false,
     }
 }

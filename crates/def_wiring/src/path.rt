@@ -30,7 +30,7 @@ pub(crate) struct Path<'a> {
 }
 
 /// The first coordinate of the last point.
-fn last_x<'a>(last: &Option<Point<'a>>) -> Label<'a>
+pub(crate) fn last_x<'a>(last: &Option<Point<'a>>) -> Label<'a>
     ensures { result ≡ last_x last.now }
 {
     match last {
@@ -40,7 +40,7 @@ fn last_x<'a>(last: &Option<Point<'a>>) -> Label<'a>
 }
 
 /// Its second coordinate.
-fn last_y<'a>(last: &Option<Point<'a>>) -> Label<'a>
+pub(crate) fn last_y<'a>(last: &Option<Point<'a>>) -> Label<'a>
     ensures { result ≡ last_y last.now }
 {
     match last {

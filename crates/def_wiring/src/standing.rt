@@ -262,6 +262,12 @@ impl<'a> Standing<'a> {
         }
     }
 
+    /// A unit of another length leads nowhere else; there is none.
+    fn stay(&mut self)
+        ensures { self.new ≡ self.old }
+    {
+    }
+
     fn after_words(&mut self, section: Section, unit: &[Word<'a>]) -> Result<(), AllocError>
         ensures { OnOk result (self.new ≡ after_words section (map token unit.now) self.old) }
     {
@@ -269,7 +275,7 @@ impl<'a> Standing<'a> {
             [word] => self.after_one(section, word)?,
             [first, second] => self.after_two(section, sort_of(first), second),
             [first, _, _] => self.section = headed(sort_of(first)),
-            _ => {}
+            _ => self.stay(),
         }
         Ok(())
     }

@@ -1,11 +1,12 @@
 //! Segments of paths, and vias at their points.
-ghost use Rattle.std.specs.Prelude.{◌≡◌, IfOk};
-ghost use Rattle.def_wiring.specs.Path.{last_x, last_y, point_of};
-ghost use Rattle.def_wiring.specs.Record.{HasShape, IsReach, SaidSegment, SaysSegment, SaysPlace, place_of};
+ghost use Rattle.std.specs.Prelude.{◌≡◌, ◌⊎◌, IfOk, OnOk};
+ghost use Rattle.def_wiring.specs.Number.{IsNumber};
+ghost use Rattle.def_wiring.specs.Path.{point_of};
+ghost use Rattle.def_wiring.specs.Record.{HasShape, IsReach, SaysSegment, SaysPlace, place_of};
 
 use crate::label::Label;
 use crate::number::{Quantity, number_of};
-use crate::path::{Path, Point};
+use crate::path::{Path, Point, last_x, last_y};
 use crate::record::{Segment, ViaPlace};
 use crate::sort::Sort;
 use geom_rect::Shape;
@@ -44,6 +45,58 @@ fn reach_of(reach: &Option<Label<'_>>) -> Result<i64, AllocError>
     }
 }
 
+/// The coordinate that the word is.
+fn coordinate_of(label: &Label<'_>) -> Result<i64, AllocError>
+    ensures { IfOk result (IsNumber Quantity.Any label.now) }
+{
+    number_of(Quantity::Any, label.bytes())
+}
+
+/// The width that the word is.
+fn width_of(label: &Label<'_>) -> Result<i64, AllocError>
+    ensures { IfOk result (IsNumber Quantity.NotNegative label.now) }
+{
+    number_of(Quantity::NotNegative, label.bytes())
+}
+
+/// A point in numbers.
+#[derive(Clone, Copy, Debug)]
+struct Spot {
+    x: i64,
+    y: i64,
+    e: i64,
+}
+
+/// The point that these words are.
+fn spot_of(
+    x: &Label<'_>,
+    y: &Label<'_>,
+    reach: &Option<Label<'_>>,
+) -> Result<Spot, AllocError>
+    ensures x { IfOk result (λ spot. IsNumber Quantity.Any x.now spot.x) }
+    ensures y { IfOk result (λ spot. IsNumber Quantity.Any y.now spot.y) }
+    ensures e { IfOk result (λ spot. IsReach reach.now spot.e) }
+{
+    Ok(Spot {
+        x: coordinate_of(x)?,
+        y: coordinate_of(y)?,
+        e: reach_of(reach)?,
+    })
+}
+
+/// Nothing, where the segment between the points is straight, and else want of memory, which never comes.
+fn straight(x1: i64, x2: i64, y1: i64, y2: i64) -> Result<(), AllocError>
+    ensures { OnOk result ((x1 ≡ x2) ⊎ (y1 ≡ y2)) }
+{
+    if x1 == x2 {
+        return Ok(());
+    }
+    if y1 == y2 {
+        return Ok(());
+    }
+    Err(AllocError)
+}
+
 /// The segment to the point that ends.
 pub(crate) fn segment_of(
     alloc: Global,
@@ -52,23 +105,21 @@ pub(crate) fn segment_of(
 ) -> Result<Segment, AllocError>
     ensures { IfOk result (SaysSegment (record { layer = path.now.layer; width = path.now.width; shape = path.now.shape; from = from.now; to = point_of path.now })) }
 {
-    let x1 = number_of(Quantity::Any, from.x.bytes())?;
-    let y1 = number_of(Quantity::Any, from.y.bytes())?;
-    let x2 = number_of(Quantity::Any, path.x.bytes())?;
-    let y2 = number_of(Quantity::Any, path.y.bytes())?;
-    if x1 != x2 && y1 != y2 {
-        return Err(AllocError);
-    }
+    let one = spot_of(&from.x, &from.y, &from.reach)?;
+    let two = spot_of(&path.x, &path.y, &path.reach)?;
+    straight(one.x, two.x, one.y, two.y)?;
+    let layer = Name::new(alloc, path.layer.bytes())?;
+    let width = width_of(&path.width)?;
     Ok(Segment {
-        layer: Name::new(alloc, path.layer.bytes())?,
-        width: number_of(Quantity::NotNegative, path.width.bytes())?,
-        shape: shape_of(path.shape, y1, y2),
-        x1,
-        y1,
-        e1: reach_of(&from.reach)?,
-        x2,
-        y2,
-        e2: reach_of(&path.reach)?,
+        layer,
+        width,
+        shape: shape_of(path.shape, one.y, two.y),
+        x1: one.x,
+        y1: one.y,
+        e1: one.e,
+        x2: two.x,
+        y2: two.y,
+        e2: two.e,
     })
 }
 
@@ -77,13 +128,16 @@ pub(crate) fn via_place(alloc: Global, path: &Path<'_>, via: &[u8]) -> Result<Vi
     ensures says { IfOk result (SaysPlace (place_of path.now via.now)) }
     ensures via { IfOk result (λ place. place.via ≡ via.now) }
 {
-    let Some(last) = &path.last else {
-        return Err(AllocError);
-    };
+    let first = last_x(&path.last);
+    let second = last_y(&path.last);
+    let name = Name::new(alloc, via)?;
+    let layer = Name::new(alloc, path.layer.bytes())?;
+    let x = coordinate_of(&first)?;
+    let y = coordinate_of(&second)?;
     Ok(ViaPlace {
-        via: Name::new(alloc, via)?,
-        layer: Name::new(alloc, path.layer.bytes())?,
-        x: number_of(Quantity::Any, last.x.bytes())?,
-        y: number_of(Quantity::Any, last.y.bytes())?,
+        via: name,
+        layer,
+        x,
+        y,
     })
 }

@@ -1,8 +1,19 @@
 use Rattle.std.proofs.Common.{subst}
 use Rattle.def_wiring.specs.declared.number.Quantity.TheVariants.{Any}
 use Rattle.def_wiring.specs.Number.{place_of}
-use Rattle.def_wiring.proofs.Numbers.{IsOnly, none_other, other_none}
+use Rattle.def_wiring.proofs.Numbers.{IsOnly, none_other, other_none, other_tells}
+use Rattle.number_place.specs.Place.{IsNumberAt}
 use Rattle.def_wiring.proofs.number.is_other.Goals as goal
+
+pub returns-in-Ok-Ok : goal.returns-in-Ok-Ok
+returns-in-Ok-Ok c =
+    let one = c.args.one.now in
+    let other = c.args.other.now in
+    other_tells one other c.in-Ok-Ok.a c.in-Ok-Ok.b c.is_equal.result c.is_equal.ensures
+    (subst (λ z. IsNumberAt (place_of Any) one z) c.in-Ok-Ok.is-0 c.read_number.ensures.answer)
+    (subst (λ z. IsNumberAt (place_of Any) other z) c.in-Ok-Ok.is-1 c.read_number-2.ensures.answer)
+    (subst (λ z. IsOnly (place_of Any) one z) c.in-Ok-Ok.is-0 c.read_number.ensures.only)
+    (subst (λ z. IsOnly (place_of Any) other z) c.in-Ok-Ok.is-1 c.read_number-2.ensures.only)
 
 pub returns-in_default : goal.returns-in_default
 returns-in_default c = (

@@ -1,5 +1,4 @@
-use Rattle.std.proofs.Common.{refl}
-use Rattle.def_wiring.proofs.Taking.{place_lost, place_added}
+use Rattle.def_wiring.proofs.Taking.{place_lost}
 use Rattle.def_wiring.proofs.held.Sections.place.Goals as goal
 
 pub returns-in-Some : goal.returns-in-Some

@@ -18,7 +18,7 @@ returns-in-len1 c =
     let there = c.args.standing.now in
     subst (λ (z : List Word). OnOk c.take_one.result (Unites there (map token z) old new)) (sym (one_word xs c.in-len1.len_at_least c.in-len1.len_below))
     (subst (λ (z : Section). OnOk c.take_one.result ((said : Said) → Tells said old → Tells (said_unit z there (token (get_or xs 0 no_word) ∷ []) said) new))
-    c.section.ensures c.take_one.ensures)
+    c.section-section.ensures c.take_one.ensures)
 
 pub returns-in-len2 : goal.returns-in-len2
 returns-in-len2 c =
@@ -29,7 +29,7 @@ returns-in-len2 c =
     subst (λ (z : List Word). OnOk c.take_two.result (Unites there (map token z) old new)) (sym (two_words xs c.in-len2.len_at_least c.in-len2.len_below))
     (subst (λ (z : Section). OnOk c.take_two.result ((said : Said) → Tells said old →
     Tells (said_unit z there (token (get_or xs 0 no_word) ∷ token (get_or xs 1 no_word) ∷ []) said) new))
-    c.section.ensures (took c.take_two.result _ _ (λ all. all there (token (get_or xs 0 no_word)) c.sort_of.ensures) c.take_two.ensures))
+    c.section-section.ensures (took c.take_two.result _ _ (λ all. all there (token (get_or xs 0 no_word)) c.sort_of.ensures) c.take_two.ensures))
 
 pub returns-in_default : goal.returns-in_default
 returns-in_default c = λ said h.

@@ -11,5 +11,5 @@ returns c =
     let there = c.args.standing.now in
     let word = token c.args.word.now in
     took c.take_act.result _ _ (λ leads said h.
-    subst (λ z. Tells (said_word z there word said) c.take_act.new.self) (c.act.ensures ∙ ap (act_in c.args.section there) c.sort_of.ensures)
+    subst (λ z. Tells (said_word z there word said) c.take_act.new.self) (c.act-act.ensures ∙ ap (act_in c.args.section there) c.sort_of.ensures)
     (leads _ (c.note.ensures said h))) c.take_act.ensures

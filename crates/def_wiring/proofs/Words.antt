@@ -27,11 +27,7 @@ pub three_words : (xs : List Word) → 3 ≤ length xs → length xs < 4 →
 three_words [] h k = absurd (omega arith)
 three_words (x ∷ xs) h k = ap (λ z. x ∷ z) (two_words xs (omega arith) (omega arith))
 
--- Units of no words and of more words lead nowhere else.
-pub stays_none : (section : Section) (unit : List Token) (standing : Standing) → length unit < 1 → standing ≡ after_words section unit standing
-stays_none section [] standing h = refl
-stays_none section (a ∷ unit) standing h = absurd (omega arith)
-
+-- A longer unit leads nowhere else.
 pub stays_long : (section : Section) (unit : List Token) (standing : Standing) → 4 ≤ length unit → standing ≡ after_words section unit standing
 stays_long section [] standing h = absurd (omega arith)
 stays_long section (a ∷ []) standing h = absurd (omega arith)

@@ -1,6 +1,6 @@
 //! The faults that the words of a unit show.
-ghost use Rattle.std.specs.Prelude.{◌≡◌, ◌↔◌, ℕ, List, Some, None, IsTrue};
-ghost use Rattle.def_wiring.specs.Fault.{CoordinateFault, SlantFault, UnknownFault, WordFault, shown_as, AtWord, LateFault, HasNumbers, ViaEndFault, ViaPartFault, ViaFault, NetFault, FirstFault, TwiceFault, CountFault, SecondFault};
+ghost use Rattle.std.specs.Prelude.{◌≡◌, ℕ, List, Some, None};
+ghost use Rattle.def_wiring.specs.Fault.{CoordinateFault, SlantFault, UnknownFault, WordFault, shown_as, AtWord, LateFault, ViaEndFault, ViaPartFault, ViaFault, NetFault, FirstFault, TwiceFault, CountFault, SecondFault};
 ghost use Rattle.def_wiring.specs.Record.{Asked, Said};
 ghost use Rattle.def_wiring.specs.Sort.{sort_of};
 ghost use Rattle.def_wiring.specs.inside.Fault.{here};
@@ -18,7 +18,7 @@ use crate::record::ViaDef;
 use crate::section::Section;
 use crate::sort::{Sort, sort_of};
 use crate::standing::{Standing, told};
-use crate::via::via_numbers;
+use crate::via::has_numbers;
 use name_table::NameTable;
 use named_entries::NamedEntries;
 use reading::Word;
@@ -138,16 +138,6 @@ fn late_fault(late: Option<Late>) -> Option<Shown>
     match late {
         Some(late) => Some(shown_as(late)),
         None => None,
-    }
-}
-
-/// Whether the numbers of a generated via have their signs.
-fn has_numbers(words: &Words<'_>) -> bool
-    ensures { IsTrue result ↔ HasNumbers words.now }
-{
-    match via_numbers(words) {
-        Ok(_) => true,
-        Err(_) => false,
     }
 }
 

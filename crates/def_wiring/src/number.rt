@@ -1,5 +1,5 @@
 //! The numbers of wiring: whole numbers of the units of the design.
-ghost use Rattle.std.specs.Prelude.{◌≡◌, ◌↔◌, ℤ, List, Ok, Err, Result, IfOk, IfErr, IsTrue};
+ghost use Rattle.std.specs.Prelude.{◌≡◌, ◌↔◌, ℤ, Result, IfOk, IsTrue};
 ghost use Rattle.def_wiring.specs.Number.{whole, place_of, IsNumber, kind_of, NumberFault, IsOther};
 ghost use Rattle.number_place.specs.declared.place.Refused.{Refused as Reason};
 ghost use Rattle.number_place.specs.Place.{IsNumberAt};
@@ -55,12 +55,21 @@ pub(crate) fn read_number(quantity: Quantity, text: &[u8]) -> Result<i64, Refuse
 
 /// The number that the text is; where it is none the answer is want of memory, which no clause ties to anything.
 pub(crate) fn number_of(quantity: Quantity, text: &[u8]) -> Result<i64, AllocError>
-    ensures is { IfOk result (IsNumber quantity text.now) }
-    ensures none { IfErr result (λ error. (value : ℤ) → IsNumber quantity text.now value → ⊥) }
+    ensures { IfOk result (IsNumber quantity text.now) }
 {
     match read_number(quantity, text) {
         Ok(value) => Ok(value),
         Err(_) => Err(AllocError),
+    }
+}
+
+/// Whether the text is a number of this kind.
+pub(crate) fn is_read(quantity: Quantity, text: &[u8]) -> bool
+    ensures { IsTrue result ↔ ((value : ℤ) × IsNumber quantity text.now value) }
+{
+    match read_number(quantity, text) {
+        Ok(_) => true,
+        Err(_) => false,
     }
 }
 

@@ -262,7 +262,7 @@ impl<'a> Standing<'a> {
         }
     }
 
-    /// A unit of another length leads nowhere else; there is none.
+    /// A longer unit leads nowhere else; there is none.
     fn stay(&mut self)
         ensures { self.new ≡ self.old }
     {
@@ -272,6 +272,7 @@ impl<'a> Standing<'a> {
         ensures { OnOk result (self.new ≡ after_words section (map token unit.now) self.old) }
     {
         match unit {
+            [] => {}
             [word] => self.after_one(section, word)?,
             [first, second] => self.after_two(section, sort_of(first), second),
             [first, _, _] => self.section = headed(sort_of(first)),

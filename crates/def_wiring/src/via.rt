@@ -1,12 +1,12 @@
 //! Generated vias.
-ghost use Rattle.std.specs.Prelude.{◌≡◌, ℤ, IfOk, IfErr};
+ghost use Rattle.std.specs.Prelude.{◌≡◌, ◌↔◌, ℤ, IsTrue, IfOk};
+ghost use Rattle.def_wiring.specs.Fault.{HasNumbers};
 ghost use Rattle.def_wiring.specs.Number.{IsNumber};
 ghost use Rattle.def_wiring.specs.Record.{SaidVia, SaysNumbers, SaysVia};
 ghost use Rattle.def_wiring.specs.Words.{text_at, text_or_one};
-ghost use Rattle.def_wiring.specs.declared.via.ViaNumbers.{ViaNumbers as Numbers};
 
 use crate::label::{Label, Words};
-use crate::number::{Quantity, number_of};
+use crate::number::{Quantity, is_read, number_of};
 use crate::record::ViaDef;
 use outside::Name;
 use std::alloc::{AllocError, Global};
@@ -33,18 +33,16 @@ struct Pair {
     y: i64,
 }
 
-/// The number that the word in this place is; where it is none the answer is want of memory.
+/// The number that the word in this place is.
 fn number_at(words: &Words<'_>, quantity: Quantity, n: usize) -> Result<i64, AllocError>
-    ensures is { IfOk result (IsNumber quantity (text_at n words.now)) }
-    ensures none { IfErr result (λ error. (value : ℤ) → IsNumber quantity (text_at n words.now) value → ⊥) }
+    ensures { IfOk result (IsNumber quantity (text_at n words.now)) }
 {
     number_of(quantity, words.text_at(n))
 }
 
 /// The count that it is, or 1 where there is no such word.
 fn count_at(words: &Words<'_>, n: usize) -> Result<i64, AllocError>
-    ensures is { IfOk result (IsNumber Quantity.Positive (text_or_one n words.now)) }
-    ensures none { IfErr result (λ error. (value : ℤ) → IsNumber Quantity.Positive (text_or_one n words.now) value → ⊥) }
+    ensures { IfOk result (IsNumber Quantity.Positive (text_or_one n words.now)) }
 {
     number_of(Quantity::Positive, words.text_or_one(n))
 }
@@ -53,8 +51,6 @@ fn count_at(words: &Words<'_>, n: usize) -> Result<i64, AllocError>
 fn pair_at(words: &Words<'_>, quantity: Quantity, n: usize, m: usize) -> Result<Pair, AllocError>
     ensures x { IfOk result (λ pair. IsNumber quantity (text_at n words.now) pair.x) }
     ensures y { IfOk result (λ pair. IsNumber quantity (text_at m words.now) pair.y) }
-    ensures none { IfErr result (λ error. (x : ℤ) (y : ℤ) → IsNumber quantity (text_at n words.now) x →
-        IsNumber quantity (text_at m words.now) y → ⊥) }
 {
     let first = number_at(words, quantity, n)?;
     let second = number_at(words, quantity, m)?;
@@ -68,8 +64,6 @@ fn pair_at(words: &Words<'_>, quantity: Quantity, n: usize, m: usize) -> Result<
 fn counts_of(words: &Words<'_>) -> Result<Pair, AllocError>
     ensures x { IfOk result (λ pair. IsNumber Quantity.Positive (text_or_one 24 words.now) pair.x) }
     ensures y { IfOk result (λ pair. IsNumber Quantity.Positive (text_or_one 25 words.now) pair.y) }
-    ensures none { IfErr result (λ error. (x : ℤ) (y : ℤ) → IsNumber Quantity.Positive (text_or_one 24 words.now) x →
-        IsNumber Quantity.Positive (text_or_one 25 words.now) y → ⊥) }
 {
     let first = count_at(words, 24)?;
     let second = count_at(words, 25)?;
@@ -79,10 +73,9 @@ fn counts_of(words: &Words<'_>) -> Result<Pair, AllocError>
     })
 }
 
-/// The numbers that these words say; where one cannot be read the answer is want of memory.
+/// The numbers that these words say.
 pub(crate) fn via_numbers(words: &Words<'_>) -> Result<ViaNumbers, AllocError>
-    ensures says { IfOk result (SaysNumbers words.now) }
-    ensures none { IfErr result (λ error. (numbers : Numbers) → SaysNumbers words.now numbers → ⊥) }
+    ensures { IfOk result (SaysNumbers words.now) }
 {
     let cut = pair_at(words, Quantity::Positive, 5, 6)?;
     let gap = pair_at(words, Quantity::NotNegative, 14, 15)?;
@@ -101,6 +94,54 @@ pub(crate) fn via_numbers(words: &Words<'_>) -> Result<ViaNumbers, AllocError>
         rows: counts.x,
         columns: counts.y,
     })
+}
+
+/// Whether the word in this place is a number of this kind.
+fn has_number(words: &Words<'_>, quantity: Quantity, n: usize) -> bool
+    ensures { IsTrue result ↔ ((value : ℤ) × IsNumber quantity (text_at n words.now) value) }
+{
+    is_read(quantity, words.text_at(n))
+}
+
+/// Whether it is a count, where there is such a word.
+fn has_count(words: &Words<'_>, n: usize) -> bool
+    ensures { IsTrue result ↔ ((value : ℤ) × IsNumber Quantity.Positive (text_or_one n words.now) value) }
+{
+    is_read(Quantity::Positive, words.text_or_one(n))
+}
+
+/// Whether the numbers of a generated via can be read with their signs.
+pub(crate) fn has_numbers(words: &Words<'_>) -> bool
+    ensures { IsTrue result ↔ HasNumbers words.now }
+{
+    if !has_number(words, Quantity::Positive, 5) {
+        return false;
+    }
+    if !has_number(words, Quantity::Positive, 6) {
+        return false;
+    }
+    if !has_number(words, Quantity::NotNegative, 14) {
+        return false;
+    }
+    if !has_number(words, Quantity::NotNegative, 15) {
+        return false;
+    }
+    if !has_number(words, Quantity::NotNegative, 18) {
+        return false;
+    }
+    if !has_number(words, Quantity::NotNegative, 19) {
+        return false;
+    }
+    if !has_number(words, Quantity::NotNegative, 20) {
+        return false;
+    }
+    if !has_number(words, Quantity::NotNegative, 21) {
+        return false;
+    }
+    if !has_count(words, 24) {
+        return false;
+    }
+    has_count(words, 25)
 }
 
 /// The generated via of this name with these words after it.

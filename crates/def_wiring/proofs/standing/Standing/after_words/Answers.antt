@@ -2,7 +2,7 @@ use Rattle.std.proofs.Common.{map, sym, ◌∙◌, ap, arith}
 use Rattle.std.proofs.lemmas.List.{length-map}
 use Rattle.def_wiring.specs.declared.section.Section.{Section}
 use Rattle.def_wiring.specs.Standing.{headed, after_words}
-use Rattle.def_wiring.proofs.Words.{three_words, stays_none, stays_long}
+use Rattle.def_wiring.proofs.Words.{three_words, stays_long}
 use Rattle.reading.specs.Word.{token}
 use Rattle.def_wiring.proofs.standing.Standing.after_words.Goals as goal
 
@@ -15,10 +15,5 @@ returns-in-len3 c =
 
 pub returns-in_default : goal.returns-in_default
 returns-in_default c =
-    c.stay.ensures ∙ stays_none c.args.section (map token c.args.unit.now) c.args.self.now
-    (let count = length-map c.args.unit.now token in let few = c.in_default.len_below in omega arith)
-
-pub returns-in_default-2 : goal.returns-in_default-2
-returns-in_default-2 c =
     c.stay.ensures ∙ stays_long c.args.section (map token c.args.unit.now) c.args.self.now
     (let count = length-map c.args.unit.now token in let many = c.in_default.len_at_least in omega arith)

@@ -9,4 +9,4 @@ returns-in-Some c =
     sym (slice_get_read via_form 27 c.args.words c.in-Some.ask.now refl found.3.0 found.1)
 
 pub returns-in-None : goal.returns-in-None
-returns-in-None c = sym (slice_get_past via_form c.args.words c.in-None.ensures.lookup)
+returns-in-None c = sym (slice_get_past via_form c.args.words c.in-None.ensures.lookup.3)

@@ -259,11 +259,7 @@ fn named(sort: Sort, act: Act) -> Act
 fn numbered(sort: Sort, act: Act) -> Act
     ensures { result ≡ (if is_number sort then act else Act.Misplaced) }
 {
-    if is_number(sort) {
-        act
-    } else {
-        Act::Misplaced
-    }
+    if is_number(sort) { act } else { Act::Misplaced }
 }
 
 fn in_head(sort: Sort) -> Act

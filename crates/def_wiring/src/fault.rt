@@ -195,11 +195,7 @@ fn use_fault(told: Option<bool>, late: Option<Late>) -> Option<Shown>
 }
 
 /// What a word of an entry of SPECIALNETS shows.
-fn net_fault<'a>(
-    said: &Sections<'a>,
-    standing: &Standing<'a>,
-    word: &Word<'a>,
-) -> Option<Shown>
+fn net_fault<'a>(said: &Sections<'a>, standing: &Standing<'a>, word: &Word<'a>) -> Option<Shown>
     ensures { (before : Said) → Tells before said.now →
         Finds (FirstFault Section.Net standing.now before (token word.now)) result }
 {

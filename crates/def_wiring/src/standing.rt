@@ -265,8 +265,7 @@ impl<'a> Standing<'a> {
     /// A longer unit leads nowhere else; there is none.
     fn stay(&mut self)
         ensures { self.new ≡ self.old }
-    {
-    }
+    {}
 
     fn after_words(&mut self, section: Section, unit: &[Word<'a>]) -> Result<(), AllocError>
         ensures { OnOk result (self.new ≡ after_words section (map token unit.now) self.old) }

@@ -68,11 +68,7 @@ struct Spot {
 }
 
 /// The point that these words are.
-fn spot_of(
-    x: &Label<'_>,
-    y: &Label<'_>,
-    reach: &Option<Label<'_>>,
-) -> Result<Spot, AllocError>
+fn spot_of(x: &Label<'_>, y: &Label<'_>, reach: &Option<Label<'_>>) -> Result<Spot, AllocError>
     ensures x { IfOk result (λ spot. IsNumber Quantity.Any x.now spot.x) }
     ensures y { IfOk result (λ spot. IsNumber Quantity.Any y.now spot.y) }
     ensures e { IfOk result (λ spot. IsReach reach.now spot.e) }

@@ -2,7 +2,9 @@
 //! ORIENT`, `blockage LAYER SPACING X1 Y1 X2 Y2`, and `region NAME` with its rectangles. An absent value is `none`.
 use crate::line::{add_number, add_word, begin, end, number_kind, refusal};
 use crate::{Printed, RECORD};
-use def_design::{Blockage, Component, DefKind, Design, Fence, Item, Row, read_design};
+use def_design::{
+    Blockage, Component, DefError, DefKind, Design, Fence, Item, Row, read_design, read_placed,
+};
 use geom_rect::{Orient, Rect};
 use std::alloc::{AllocError, Global};
 
@@ -126,9 +128,9 @@ fn record(alloc: Global, design: &Design) -> Result<Vec<u8>, AllocError> {
     Ok(out)
 }
 
-/// What is printed of the text of a design.
-pub(crate) fn told(alloc: Global, text: &[u8]) -> Result<Printed, AllocError> {
-    match read_design(alloc, text) {
+/// What is printed of a design, or of the refusal of its text.
+fn printed(alloc: Global, read: Result<Design, DefError>) -> Result<Printed, AllocError> {
+    match read {
         Ok(design) => Ok(Printed {
             text: record(alloc, &design)?,
             status: RECORD,
@@ -138,4 +140,14 @@ pub(crate) fn told(alloc: Global, text: &[u8]) -> Result<Printed, AllocError> {
             None => Err(AllocError),
         },
     }
+}
+
+/// What is printed of the text of a design without wires.
+pub(crate) fn told(alloc: Global, text: &[u8]) -> Result<Printed, AllocError> {
+    printed(alloc, read_design(alloc, text))
+}
+
+/// What is printed of the text of a design that may have wires.
+pub(crate) fn placed(alloc: Global, text: &[u8]) -> Result<Printed, AllocError> {
+    printed(alloc, read_placed(alloc, text))
 }

@@ -13,6 +13,7 @@ mod netlist;
 mod script;
 mod tech;
 mod waves;
+mod wires;
 
 use outside::{LONGEST_TEXT, StdFiles, StdSink, read_whole, send};
 use std::alloc::{AllocError, Global};
@@ -67,11 +68,17 @@ fn told(alloc: Global, format: &str, text: &[u8]) -> Result<Option<Printed>, All
     if format == "def" {
         return Ok(Some(design::told(alloc, text)?));
     }
+    if format == "placed" {
+        return Ok(Some(design::placed(alloc, text)?));
+    }
     if format == "lef_tech" {
         return Ok(Some(tech::told(alloc, text)?));
     }
     if format == "waves" {
         return Ok(Some(waves::told(alloc, text)?));
+    }
+    if format == "wires" {
+        return Ok(Some(wires::told(alloc, text)?));
     }
     Ok(None)
 }

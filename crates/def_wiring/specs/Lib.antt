@@ -1,0 +1,13 @@
+pub mod Sort
+pub mod Section
+pub mod Rule
+pub mod Number
+pub mod Words
+pub mod Act
+pub mod Path
+pub mod Standing
+pub mod Record
+pub mod Fault
+pub mod Format
+pub mod Limits
+pub mod inside

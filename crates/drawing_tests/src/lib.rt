@@ -18,6 +18,8 @@ mod grid_stacks_tests;
 #[cfg(test)]
 mod kept;
 #[cfg(test)]
+mod macro_turns_tests;
+#[cfg(test)]
 mod made;
 #[cfg(test)]
 mod plain_sites_tests;

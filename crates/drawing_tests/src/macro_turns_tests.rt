@@ -49,7 +49,11 @@ fn points_in_their_places(rt: HostRuntime) -> Result<(), Fail> {
         (Orient::FW, 10700, 100),
         (Orient::FE, 12100, 3900),
     ] {
-        assert_eq!(rt; point_in_place(placed(orient), point), Point { x, y }, "{orient:?}");
+        assert_eq!(rt;
+            point_in_place(placed(orient), point),
+            Point { x, y },
+            "{orient:?}"
+        );
     }
     Ok(())
 }

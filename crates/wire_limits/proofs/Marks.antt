@@ -55,3 +55,14 @@ mark_more count spots used i spot within is inside uses =
     back k low (inl had) = set_there k low (cases_eq k spot.via) ((uses.each k low).1 had)
     back k low (inr new) = ap (λ j. get_or (set used spot.via true) j false) (sym (only spot.via k new))
         ∙ get_or-set_same used spot.via true false (omega (arith, uses.as_many))
+
+-- The same of the place that stands there.
+pub mark_at : (count : ℕ) (spots : List Spot) (used : List Bool) (i : ℕ) (d : Spot) → i < length spots → (get_or spots i d).via < count
+    → AreUses count (take i spots) used → AreUses count (take (i + 1) spots) (set used (get_or spots i d).via true)
+mark_at count spots used i d within inside uses =
+    mark_more count spots used i (get_or spots i d) within (get_or-any spots i d (get_or spots i d) within) inside uses
+  where
+    get_or-any : (xs : List Spot) (j : ℕ) (a b : Spot) → j < length xs → get_or xs j a ≡ get_or xs j b
+    get_or-any [] j a b low = absurd (omega arith)
+    get_or-any (x ∷ xs) zero a b low = refl
+    get_or-any (x ∷ xs) (suc j) a b low = get_or-any xs j a b (omega arith)

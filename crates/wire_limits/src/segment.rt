@@ -19,8 +19,9 @@ pub(crate) fn odd_net(nets: &[WiredNet]) -> Result<Option<(u32, i64)>, AllocErro
     ensures { IfOk result (FindsOddNet nets.now) }
 {
     for (place, net) in nets.iter().enumerate() {
-        if let Some(width) = odd_width(net.segments.as_slice()) {
-            return Ok(Some((number(place)?, width)));
+        match odd_width(net.segments.as_slice()) {
+            Some(width) => return Ok(Some((number(place)?, width))),
+            None => {}
         }
     }
     Ok(None)

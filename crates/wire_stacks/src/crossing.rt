@@ -126,7 +126,8 @@ fn half_up(long: i64) -> i64
     ensures some { pos 1 ≤ℤ result }
     ensures few { result ≤ℤ pos (2 ^ 40) }
 {
-    (long as u64).div_ceil(2) as i64
+    let more = long as u64 + 1;
+    (more / 2) as i64
 }
 
 fn greater(one: i64, other: i64) -> i64

@@ -1,0 +1,5 @@
+pub mod Lists
+pub mod Placing
+pub mod Halving
+pub mod Chained
+pub mod Stacking

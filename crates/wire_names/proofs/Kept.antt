@@ -1,5 +1,5 @@
 -- What places of a technology's names keep.
-use Rattle.std.proofs.Common.{◌≡◌, All, length, map, ap, ◌∙◌, sym, subst, List, ℕ}
+use Rattle.std.proofs.Common.{◌≡◌, All, length, ap, ◌∙◌, sym, subst}
 use Rattle.std.proofs.lemmas.List.{length-map}
 use Rattle.lef_tech.specs.declared.layer.CutLayer.{CutLayer}
 use Rattle.lef_tech.specs.declared.layer.RoutingLayer.{RoutingLayer}
@@ -8,7 +8,6 @@ use Rattle.lef_tech.specs.declared.tech.Tech.{Tech}
 use Rattle.def_wiring.specs.declared.record.ViaDef.{ViaDef}
 use Rattle.def_wiring.specs.declared.record.Wires.{Wires}
 use Rattle.wire_names.specs.declared.pair.Pair.{Pair}
-use Rattle.wire_names.specs.declared.record.NamedVia.{NamedVia}
 use Rattle.wire_names.specs.declared.record.NamedWires.{NamedWires}
 use Rattle.wire_names.specs.declared.tables.Tables.{Tables}
 use Rattle.wire_names.specs.Keeping.{NamedKeep, ViaStands, ShapeStands, SpotStands}

@@ -1,12 +1,9 @@
 -- One more entry of lists that are made entry after entry, and what all entries of nets keep.
-use Rattle.std.proofs.Common.{◌≡◌, ℕ, ◌+◌, ◌<◌, List, [], ◌∷◌, ◌++◌, All, length, map, take, get_or, append_assoc, refl, sym, ◌∙◌, ap, subst}
-use Rattle.std.proofs.lemmas.List.{map_more, length-map}
-use Rattle.std.proofs.lemmas.List.Elements.{All-weaker}
-use Rattle.def_wiring.specs.declared.record.Segment.{Segment}
+use Rattle.std.proofs.Common.{◌≡◌, ℕ, ◌+◌, ◌<◌, List, [], ◌∷◌, ◌++◌, All, length, map, take, get_or, append_assoc, sym, ◌∙◌, ap}
+use Rattle.std.proofs.lemmas.List.{map_more}
 use Rattle.def_wiring.specs.declared.record.ViaDef.{ViaDef}
-use Rattle.def_wiring.specs.declared.record.ViaPlace.{ViaPlace}
 use Rattle.def_wiring.specs.declared.record.WiredNet.{WiredNet}
-use Rattle.def_wiring.specs.Limits.{NetKeeps, PlaceKeeps, SegmentKeeps}
+use Rattle.def_wiring.specs.Limits.{NetKeeps, SegmentKeeps}
 use Rattle.wire_names.specs.inside.Tables.{LiesNear}
 
 pub appended : {X Y : Type 0} (f : X → Y) (before : List Y) (xs : List X) (old new : List Y) (i : ℕ) (x : X) (y : Y) → i < length xs

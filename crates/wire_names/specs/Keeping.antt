@@ -1,5 +1,5 @@
 -- What wiring with places for names keeps: places stand, and numbers are within their limits.
-use Rattle.std.specs.Prelude.{◌≡◌, ◌⊎◌, ℕ, ◌<◌, ◌≤◌, ◌^◌, ℤ, pos, ◌≤ℤ◌, unsigned_abs, All, length}
+use Rattle.std.specs.Prelude.{ℕ, ◌<◌, ◌≤◌, ◌^◌, ℤ, pos, ◌≤ℤ◌, unsigned_abs, All, length}
 use Rattle.geom_rect.specs.declared.drawn.Drawn.{Drawn}
 use Rattle.lef_tech.specs.declared.tech.Tech.{Tech}
 use Rattle.def_wiring.specs.Limits.{IsNear, IsLength, IsPositive}

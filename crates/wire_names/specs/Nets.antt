@@ -1,5 +1,5 @@
 -- The two nets of wiring (LEF/DEF 5.8 Language Reference, SPECIALNETS, USE POWER and USE GROUND).
-use Rattle.std.specs.Prelude.{ℕ, Bool, true, false, cond, not, ◌&&◌, ◌||◌, nat_lt, List, length, filter}
+use Rattle.std.specs.Prelude.{ℕ, Bool, cond, not, ◌&&◌, ◌||◌, nat_lt, List, length, filter}
 use Rattle.def_wiring.specs.declared.record.WiredNet.{WiredNet}
 use Rattle.def_wiring.specs.declared.record.Wires.{Wires}
 

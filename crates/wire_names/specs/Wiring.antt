@@ -1,10 +1,9 @@
 -- Wiring with places for names, and what refuses it (LEF/DEF 5.8 Language Reference, VIAS and SPECIALNETS).
-use Rattle.std.specs.Prelude.{◌≡◌, ◌≢◌, ◌⊎◌, ℕ, ℤ, ◌+ℤ◌, ◌-ℤ◌, unsigned_abs, int_lt, Bool, true, false, cond, List, [], ◌∷◌, length, map, Option, Some, None}
+use Rattle.std.specs.Prelude.{◌≡◌, ◌≢◌, ◌⊎◌, ℕ, ℤ, ◌+ℤ◌, ◌-ℤ◌, unsigned_abs, int_lt, Bool, true, false, cond, List, [], ◌∷◌, length, map, Some, None}
 use Rattle.std.specs.Bool.{MatchBool}
 use Rattle.std.specs.List.{flat_map}
 use Rattle.std.specs.Ordering.{int_eq}
 use Rattle.name_table.specs.ByteOrder.{IsBefore}
-use Rattle.geom_rect.specs.declared.direction.Axis.{Axis}
 use Rattle.geom_rect.specs.declared.direction.Axis.TheVariants.{X, Y}
 use Rattle.geom_rect.specs.declared.drawn.Drawn.{Drawn}
 use Rattle.lef_tech.specs.declared.tech.Tech.{Tech}

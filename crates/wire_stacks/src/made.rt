@@ -30,7 +30,7 @@ pub(crate) struct Made {
 }
 
 // The stacks of chains, in the order of the chains.
-pub(crate) fn made(
+pub(crate) fn all_made(
     alloc: Global,
     tech: &Tech,
     vias: &[NamedVia],

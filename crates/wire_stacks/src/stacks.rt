@@ -6,7 +6,7 @@ ghost use Rattle.wire_stacks.specs.Stacks.{AreStacks, AreOff, StackStands};
 
 use crate::ends::check_ends;
 use crate::error::OffError;
-use crate::made::{alone, in_order, made};
+use crate::made::{all_made, alone, in_order};
 use crate::placed::placed;
 use grid_pieces::{Piece, StackAt};
 use lef_tech::Tech;
@@ -38,7 +38,7 @@ pub fn wired_stacks(
     let lines = CentreLines::new(alloc, pieces)?;
     let placed = placed(alloc, vias, named.spots.as_slice(), &lines)?;
     let chains = chains(alloc, placed)?;
-    let made = in_order(made(alloc, tech, vias, &chains)?);
+    let made = in_order(all_made(alloc, tech, vias, &chains)?);
     check_ends(&made, &lines)?;
     let stacks = alone(alloc, made)?;
     Ok(stacks)

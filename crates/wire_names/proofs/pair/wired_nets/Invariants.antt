@@ -1,4 +1,4 @@
-use Rattle.std.proofs.Common.{◌≡◌, take, map, None, length, ◌++◌, All, filter, ◌≤◌}
+use Rattle.std.proofs.Common.{◌≡◌, take, map, filter}
 use Rattle.wire_names.specs.Nets.{is_wired}
 use Rattle.wire_names.proofs.pair.wired_nets.Given as goal
 

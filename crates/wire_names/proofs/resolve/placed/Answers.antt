@@ -1,4 +1,4 @@
-use Rattle.std.proofs.Common.{◌≡◌, All, List, sym, subst}
+use Rattle.std.proofs.Common.{All, sym, subst}
 use Rattle.def_wiring.specs.declared.record.WiredNet.{WiredNet}
 use Rattle.def_wiring.specs.Limits.{SegmentKeeps}
 use Rattle.wire_names.specs.inside.Tables.{LiesNear}

@@ -1,5 +1,4 @@
-use Rattle.std.proofs.Common.{◌≡◌, length, arith}
-use Rattle.std.proofs.lemmas.Grind.{common_steps}
+use Rattle.std.proofs.Common.{length}
 use Rattle.std.proofs.lemmas.List.Elements.{All-push}
 use Rattle.wire_names.specs.Keeping.{ShapeStands}
 use Rattle.wire_names.proofs.Steps.{appended}

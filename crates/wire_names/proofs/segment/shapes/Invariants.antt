@@ -1,4 +1,4 @@
-use Rattle.std.proofs.Common.{◌≡◌, take, map, None, length, ◌++◌, All, filter, ◌≤◌}
+use Rattle.std.proofs.Common.{◌≡◌, take, length, All}
 use Rattle.std.specs.List.{flat_map}
 use Rattle.wire_names.specs.Keeping.{ShapeStands}
 use Rattle.wire_names.specs.Wiring.{shapes_of}

@@ -1,4 +1,4 @@
-use Rattle.std.proofs.Common.{◌≡◌, take, map, None, length, ◌++◌, All, filter, ◌≤◌}
+use Rattle.std.proofs.Common.{◌≡◌, take, map}
 use Rattle.lef_tech.specs.declared.layer.RoutingLayer.{RoutingLayer}
 use Rattle.wire_names.proofs.tables.layers.Given as goal
 

@@ -1,4 +1,4 @@
-use Rattle.std.proofs.Common.{◌≡◌, take, map, None, length, ◌++◌, All, filter, ◌≤◌}
+use Rattle.std.proofs.Common.{◌≡◌, take, map}
 use Rattle.lef_tech.specs.declared.rule.ViaRule.{ViaRule}
 use Rattle.wire_names.proofs.tables.rules.Given as goal
 

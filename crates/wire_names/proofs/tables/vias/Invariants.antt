@@ -1,4 +1,4 @@
-use Rattle.std.proofs.Common.{◌≡◌, take, map, None, length, ◌++◌, All, filter, ◌≤◌}
+use Rattle.std.proofs.Common.{◌≡◌, take, map}
 use Rattle.def_wiring.specs.Limits.{names_of_vias}
 use Rattle.wire_names.proofs.tables.vias.Given as goal
 

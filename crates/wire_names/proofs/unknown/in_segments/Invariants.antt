@@ -1,5 +1,5 @@
-use Rattle.std.proofs.Common.{◌≡◌, take, map, None, length, ◌++◌, All, filter, ◌≤◌}
-use Rattle.wire_names.specs.Names.{first_some, unknown_in_via, unknown_in_net, unknown_in_segment}
+use Rattle.std.proofs.Common.{◌≡◌, take, None}
+use Rattle.wire_names.specs.Names.{first_some, unknown_in_segment}
 use Rattle.wire_names.specs.inside.Tables.{names_in}
 use Rattle.wire_names.proofs.unknown.in_segments.Given as goal
 

@@ -1,4 +1,4 @@
-use Rattle.std.proofs.Common.{◌≡◌, take, map, None, length, ◌++◌, All, filter, ◌≤◌}
+use Rattle.std.proofs.Common.{◌≡◌, take, map, length, All}
 use Rattle.wire_names.specs.Keeping.{ViaStands}
 use Rattle.wire_names.specs.Wiring.{via_of}
 use Rattle.wire_names.specs.inside.Tables.{names_in}

@@ -3,3 +3,4 @@ pub mod Placing
 pub mod Halving
 pub mod Chained
 pub mod Stacking
+pub mod Whole

@@ -13,7 +13,6 @@ use Rattle.wire_names.specs.declared.record.Spot.{Spot}
 use Rattle.wire_pieces.specs.Centre.{IsHeld}
 use Rattle.wire_stacks.specs.Vias.{AreViasAt, IsViaAt}
 
-
 -- A via at a place is that of a spot.
 pub of_spot : (vias : List NamedVia) (pieces : List Piece) (spots : List Spot) (placed : List ViaAt) (k : ℕ) (d : ViaAt) (s : Spot)
     → AreViasAt vias pieces spots placed → k < length placed → IsViaAt vias pieces k (get_or spots k s) (get_or placed k d)

@@ -75,7 +75,12 @@ fn half_width_of(via: &NamedVia) -> i64
     requires size { HasSize via.now }
     ensures { IsHalf ReachesX via.now result }
 {
-    half_of(via.columns, via.cut_x, via.pitch_x, greater(via.lower_x, via.upper_x))
+    half_of(
+        via.columns,
+        via.cut_x,
+        via.pitch_x,
+        greater(via.lower_x, via.upper_x),
+    )
 }
 
 fn half_height_of(via: &NamedVia) -> i64
@@ -83,7 +88,12 @@ fn half_height_of(via: &NamedVia) -> i64
     requires size { HasSize via.now }
     ensures { IsHalf ReachesY via.now result }
 {
-    half_of(via.rows, via.cut_y, via.pitch_y, greater(via.lower_y, via.upper_y))
+    half_of(
+        via.rows,
+        via.cut_y,
+        via.pitch_y,
+        greater(via.lower_y, via.upper_y),
+    )
 }
 
 // Half of the length of a row of cuts with their enclosure on both sides, rounded up.

@@ -1,5 +1,5 @@
 -- What refuses a stage refuses the whole, where the stages before it stand.
-use Rattle.std.proofs.Common.{◌≡◌, ℕ, ◌<◌, ◌≤◌, length}
+use Rattle.std.proofs.Common.{length}
 use Rattle.lef_tech.specs.declared.tech.Tech.{Tech}
 use Rattle.def_wiring.specs.declared.record.Wires.{Wires}
 use Rattle.wire_names.specs.declared.record.NamedWires.{NamedWires}

@@ -1,11 +1,11 @@
 -- The first of a list that has not what all are to have, place after place.
-use Rattle.std.proofs.Common.{◌≡◌, ℕ, ◌+◌, ◌<◌, ◌≤◌, Bool, true, false, ◌⊎◌, inl, inr, List, length, get_or, slice_get, Option, Some, sym, ◌∙◌, ap, subst, arith}
+use Rattle.std.proofs.Common.{◌≡◌, ℕ, ◌+◌, ◌<◌, ◌≤◌, Bool, true, false, ◌⊎◌, inl, inr, List, length, get_or, slice_get, Some, sym, subst, arith}
 use Rattle.std.proofs.lemmas.Bool.{cases_eq}
 use Rattle.std.proofs.lemmas.Option.{slice_get_within, slice_get-get_or, get_or_from_slice_get}
 use Rattle.wire_names.specs.declared.record.NamedVia.{NamedVia}
 use Rattle.wire_names.specs.declared.record.Spot.{Spot}
-use Rattle.wire_limits.specs.First.{IsFirstWithout, EachHas}
-use Rattle.wire_limits.specs.Vias.{IsUsed, IsFirstUsedWithout, EachUsedHas}
+use Rattle.wire_limits.specs.First.{IsFirstWithout}
+use Rattle.wire_limits.specs.Vias.{IsUsed, IsFirstUsedWithout}
 use Rattle.wire_limits.specs.inside.Used.{AreUses}
 
 -- All before a place have it.

@@ -1,10 +1,10 @@
 -- What the searches among segments and vias say together.
-use Rattle.std.proofs.Common.{◌≡◌, ℕ, ℤ, pos, List, Option, Some, None, refl, sym, subst}
+use Rattle.std.proofs.Common.{ℤ, pos, List}
 use Rattle.def_wiring.specs.declared.record.Segment.{Segment}
 use Rattle.wire_names.specs.declared.record.NamedVia.{NamedVia}
-use Rattle.wire_limits.specs.First.{IsFirstWithout, EachHas}
+use Rattle.wire_limits.specs.First.{EachHas}
 use Rattle.wire_limits.specs.Segments.{IsEven}
-use Rattle.wire_limits.specs.inside.Segments.{FindsOdd, IsFirstOddOf}
+use Rattle.wire_limits.specs.inside.Segments.{IsFirstOddOf}
 
 abbrev pub no_via : NamedVia
 no_via = record {

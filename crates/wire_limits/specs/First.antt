@@ -1,5 +1,5 @@
 -- The first of a list that has not what all are to have.
-use Rattle.std.specs.Prelude.{◌≡◌, ℕ, ◌<◌, List, Option, Some, slice_get}
+use Rattle.std.specs.Prelude.{◌≡◌, ℕ, ◌<◌, List, Some, slice_get}
 
 -- The entry at a place has not the property, and all before it have it.
 pub record IsFirstWithout {X : Type 0} (P : X → Type 0) (xs : List X) (place : ℕ) (entry : X) : Type 0 where

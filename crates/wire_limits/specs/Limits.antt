@@ -1,5 +1,5 @@
 -- What refuses wiring before its stacks are looked for, of several causes the first.
-use Rattle.std.specs.Prelude.{◌≡◌, ℕ, ◌<◌, ◌≤◌, ℤ, List, length}
+use Rattle.std.specs.Prelude.{◌≡◌, ℕ, ◌<◌, ◌≤◌, ℤ, length}
 use Rattle.geom_rect.specs.declared.drawn.Drawn.{Drawn}
 use Rattle.lef_tech.specs.declared.tech.Tech.{Tech}
 use Rattle.def_wiring.specs.declared.record.Segment.{Segment}

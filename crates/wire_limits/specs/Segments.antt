@@ -1,5 +1,5 @@
 -- Segments of wiring (LEF/DEF 5.8 Language Reference, SPECIALNETS; "Layer (Routing)", RESISTANCE RPERSQ).
-use Rattle.std.specs.Prelude.{◌≡◌, ◌≢◌, ℕ, List, map, Option, None, slice_index_or}
+use Rattle.std.specs.Prelude.{◌≢◌, ℕ, map, Option, None, slice_index_or}
 use Rattle.geom_rect.specs.Drawn.{IsWidth}
 use Rattle.geom_rect.specs.declared.drawn.Drawn.{Drawn}
 use Rattle.lef_tech.specs.declared.layer.RoutingLayer.{RoutingLayer}

@@ -1,5 +1,5 @@
 -- Vias that stand somewhere (LEF/DEF 5.8 Language Reference, VIAS: VIARULE, LAYERS, CUTSIZE, CUTSPACING, ROWCOL).
-use Rattle.std.specs.Prelude.{◌≡◌, ℕ, ◌+◌, ◌<◌, ◌^◌, ℤ, pos, ◌*ℤ◌, ◌≤ℤ◌, List, Contains, map, Option, Some, slice_get}
+use Rattle.std.specs.Prelude.{◌≡◌, ℕ, ◌+◌, ◌<◌, pos, ◌*ℤ◌, ◌≤ℤ◌, List, Contains, map, Option, Some, slice_get}
 use Rattle.lef_tech.specs.declared.rule.ViaRule.{ViaRule}
 use Rattle.lef_tech.specs.declared.tech.Tech.{Tech}
 use Rattle.via_arrays.specs.Choice.{IsRule}

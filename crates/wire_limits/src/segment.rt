@@ -63,5 +63,7 @@ fn has_sheet(tech: &Tech, shape: &Drawn) -> bool
     requires { shape.now.layer < length tech.now.routing }
     ensures { IsTrue result ↔ HasSheet tech.now shape.now }
 {
-    tech.routing.as_slice()[shape.layer as usize].sheet.is_some()
+    tech.routing.as_slice()[shape.layer as usize]
+        .sheet
+        .is_some()
 }

@@ -1,4 +1,4 @@
-use Rattle.std.proofs.Common.{◌≡◌, ◌<◌, ℕ, take, length, slice_get, Some}
+use Rattle.std.proofs.Common.{◌≡◌, ◌<◌, ℕ, slice_get, Some}
 use Rattle.geom_rect.specs.declared.drawn.Drawn.{Drawn}
 use Rattle.wire_limits.specs.Segments.{HasSheet}
 use Rattle.wire_limits.proofs.segment.bare_layer.Given as goal

@@ -1,6 +1,5 @@
-use Rattle.std.proofs.Common.{◌≡◌, refl, sym, subst, ◌∙◌, ap, SFits, w64, rules, arith}
+use Rattle.std.proofs.Common.{sym, subst, SFits, w64, rules}
 use Rattle.std.proofs.lemmas.Int.{to_z-of_z}
-use Rattle.def_wiring.specs.declared.record.WiredNet.{WiredNet}
 use Rattle.wire_limits.specs.First.{IsFirstWithout}
 use Rattle.wire_limits.specs.Segments.{AreEven}
 use Rattle.wire_limits.specs.inside.Segments.{FindsOdd, IsFirstOddOf}

@@ -1,8 +1,6 @@
-use Rattle.std.proofs.Common.{◌≡◌, ◌↔◌, IsTrue, true, false, refl, sym, subst, SFits, w64, rules, arith}
+use Rattle.std.proofs.Common.{refl, sym, subst, SFits, w64, rules}
 use Rattle.std.proofs.lemmas.Bool.{false≢true}
 use Rattle.std.proofs.lemmas.Int.{to_z-of_z}
-use Rattle.geom_rect.specs.Drawn.{IsWidth}
-use Rattle.def_wiring.specs.declared.record.Segment.{Segment}
 use Rattle.wire_limits.specs.First.{IsFirstWithout}
 use Rattle.wire_limits.specs.Segments.{IsEven}
 use Rattle.wire_limits.proofs.Search.{before_more, before_all, first_without}

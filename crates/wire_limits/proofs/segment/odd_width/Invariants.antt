@@ -1,4 +1,4 @@
-use Rattle.std.proofs.Common.{◌≡◌, ◌<◌, ℕ, take, length, slice_get, Some}
+use Rattle.std.proofs.Common.{◌≡◌, ◌<◌, ℕ, slice_get, Some}
 use Rattle.def_wiring.specs.declared.record.Segment.{Segment}
 use Rattle.wire_limits.specs.Segments.{IsEven}
 use Rattle.wire_limits.proofs.segment.odd_width.Given as goal

@@ -1,6 +1,6 @@
-use Rattle.std.proofs.Common.{◌≡◌, ◌<◌, length, get_or, pos, refl, arith}
+use Rattle.std.proofs.Common.{length, pos}
 use Rattle.wire_names.specs.declared.record.Spot.{Spot}
-use Rattle.wire_limits.proofs.Marks.{mark_more, mark_at}
+use Rattle.wire_limits.proofs.Marks.{mark_at}
 use Rattle.wire_limits.proofs.used.mark.Goals as goal
 
 pub loop-spot-preserved : goal.loop-spot-preserved

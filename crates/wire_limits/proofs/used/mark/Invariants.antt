@@ -1,4 +1,4 @@
-use Rattle.std.proofs.Common.{◌≡◌, ◌<◌, ℕ, take, length, slice_get, Some}
+use Rattle.std.proofs.Common.{take, length}
 use Rattle.wire_limits.specs.inside.Used.{AreUses}
 use Rattle.wire_limits.proofs.used.mark.Given as goal
 

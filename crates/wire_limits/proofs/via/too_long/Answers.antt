@@ -1,7 +1,7 @@
-use Rattle.std.proofs.Common.{◌≡◌, pos, false, true, refl, sym, ◌∙◌, arith}
+use Rattle.std.proofs.Common.{refl, sym, ◌∙◌}
 use Rattle.std.proofs.lemmas.Bool.{false≢true}
 use Rattle.wire_names.specs.declared.record.NamedVia.{NamedVia}
-use Rattle.wire_limits.specs.Vias.{IsUsed, HasItsLayers, HasSize, HasCutResistance}
+use Rattle.wire_limits.specs.Vias.{IsUsed, HasSize}
 use Rattle.wire_limits.proofs.Search.{used_more, before_all, first_used}
 use Rattle.wire_limits.proofs.Stages.{no_via}
 use Rattle.wire_limits.proofs.via.too_long.Goals as goal

@@ -1,6 +1,6 @@
-use Rattle.std.proofs.Common.{◌≡◌, ◌<◌, ℕ, take, length, slice_get, Some}
+use Rattle.std.proofs.Common.{◌≡◌, ◌<◌, ℕ, slice_get, Some}
 use Rattle.wire_names.specs.declared.record.NamedVia.{NamedVia}
-use Rattle.wire_limits.specs.Vias.{IsUsed, HasItsLayers, HasSize, HasCutResistance}
+use Rattle.wire_limits.specs.Vias.{IsUsed, HasSize}
 use Rattle.wire_limits.proofs.via.too_long.Given as goal
 
 abbrev pub invariant-loop-place : goal.invariant-loop-place

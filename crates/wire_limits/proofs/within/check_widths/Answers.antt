@@ -1,4 +1,4 @@
-use Rattle.std.proofs.Common.{◌≡◌, List, None, subst}
+use Rattle.std.proofs.Common.{List, None, subst}
 use Rattle.def_wiring.specs.declared.record.WiredNet.{WiredNet}
 use Rattle.wire_limits.specs.inside.Segments.{FindsOddNet}
 use Rattle.wire_limits.proofs.within.check_widths.Goals as goal

@@ -83,5 +83,7 @@ next_layer tech layers cuts rules vias pieces spots placed via stand on has_laye
     let from = there vias pieces spots placed via are has in
     let stands = All-contains (SpotStands (length vias)) spots from.1 on from.2 in
     let fits = of_used (HasItsLayers tech) vias spots from.1 on has_layers from.2 in
-    let upper = (stand from.1.via (via_at vias from.1.via) stands.via).upper in
+    let inside : from.1.via < length vias = stands.via in
+    let upper : (via_at vias from.1.via).upper < layers = (All-contains (ViaStands layers cuts rules) vias (via_at vias from.1.via) stand
+    (Contains-get_or vias from.1.via _ inside)).upper in
     omega (arith, fits.has.next, from.3.layer, upper)

@@ -4,3 +4,4 @@ pub mod Halving
 pub mod Chained
 pub mod Stacking
 pub mod Whole
+pub mod Ordered

@@ -22,7 +22,7 @@ indexed_more {X} {Y} R xs ys n x y count is has each k a b at_a at_b = by (cases
         let same_a : x ≡ a = is ∙ ap (λ i. get_or xs i x) (sym last) ∙ get_or_from_slice_get xs k a x at_a in
         subst (λ z. R k z b) same_a (subst (λ z. R k x z) same_b (subst (λ i. R i x y) (sym last) has))
     by (inr other) =
-        let low : k < length ys = omega arith in
+        let low : k < length ys = omega (arith, within, count) in
         let there : get_or ys k b ≡ b = sym (get_or_append_left ys (y ∷ []) b k low) ∙ get_or_from_slice_get (ys ++ y ∷ []) k b b at_b in
         each k a b at_a (slice_get-get_or ys k b low ∙ ap Some there)
 
@@ -30,3 +30,12 @@ indexed_more {X} {Y} R xs ys n x y count is has each k a b at_a at_b = by (cases
 pub indexed_none : {X Y : Type 0} (R : ℕ → X → Y → Type 0) (xs : List X) (ys : List Y) → ys ≡ []
     → (k : ℕ) (a : X) (b : Y) → slice_get xs k ≡ Some a → slice_get ys k ≡ Some b → R k a b
 indexed_none R xs ys none k a b at_a at_b = let low = slice_get_within ys k b at_b in absurd (omega (arith, ap length none))
+
+-- What holds before a place, and there, holds before the next one.
+pub before_more : {X : Type 0} (P : X → Type 0) (xs : List X) (i : ℕ) (d : X) → ((k : ℕ) (other : X) → k < i → slice_get xs k ≡ Some other → P other)
+    → P (get_or xs i d) → (k : ℕ) (other : X) → k < i + 1 → slice_get xs k ≡ Some other → P other
+before_more {X} P xs i d each has k other low at = by (cases_eq k i)
+  where
+    by : (k ≡ i) ⊎ (k ≡ i → ⊥) → P other
+    by (inl last) = subst P (get_or_from_slice_get xs k other d at) (subst (λ j. P (get_or xs j d)) (sym last) has)
+    by (inr less) = each k other (omega arith) at

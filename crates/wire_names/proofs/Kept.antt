@@ -5,7 +5,7 @@ use Rattle.lef_tech.specs.declared.layer.CutLayer.{CutLayer}
 use Rattle.lef_tech.specs.declared.layer.RoutingLayer.{RoutingLayer}
 use Rattle.lef_tech.specs.declared.rule.ViaRule.{ViaRule}
 use Rattle.lef_tech.specs.declared.tech.Tech.{Tech}
-use Rattle.def_wiring.specs.declared.record.ViaDef.{ViaDef}
+use Rattle.def_wiring.specs.Limits.{via_name}
 use Rattle.def_wiring.specs.declared.record.Wires.{Wires}
 use Rattle.wire_names.specs.declared.pair.Pair.{Pair}
 use Rattle.wire_names.specs.declared.record.NamedWires.{NamedWires}
@@ -23,7 +23,7 @@ named_keep tech wires tables pair named is placed keep =
     let cuts : length tables.cuts ≡ length tech.cuts = ap (λ (n : Names). length n.cuts) is ∙ length-map tech.cuts (λ (l : CutLayer). l.name) in
     let rules : length tables.rules ≡ length tech.rules = ap (λ (n : Names). length n.rules) is ∙ length-map tech.rules (λ (r : ViaRule). r.name) in
     let vias : length tables.vias ≡ length named.vias =
-    ap (λ (n : Names). length n.vias) is ∙ length-map wires.vias (λ (v : ViaDef). v.name) ∙ sym (length-map wires.vias (via_of (names_in tables))) ∙ ap length (sym placed.vias) in
+    ap (λ (n : Names). length n.vias) is ∙ length-map wires.vias via_name ∙ sym (length-map wires.vias (via_of (names_in tables))) ∙ ap length (sym placed.vias) in
     record {
       vias = subst (λ n. All (ViaStands n (length tech.cuts) (length tech.rules)) named.vias) layers
           (subst (λ n. All (ViaStands (length tables.layers) n (length tech.rules)) named.vias) cuts

@@ -11,7 +11,7 @@ use Rattle.def_wiring.specs.declared.record.Segment.{Segment}
 use Rattle.def_wiring.specs.declared.record.ViaDef.{ViaDef}
 use Rattle.def_wiring.specs.declared.record.WiredNet.{WiredNet}
 use Rattle.def_wiring.specs.declared.record.Wires.{Wires}
-use Rattle.def_wiring.specs.Limits.{names_of_vias}
+use Rattle.def_wiring.specs.Limits.{via_name}
 
 -- The names of the routing layers, the cut layers and the rules of a technology and of the vias of the wiring, each list
 -- in its order.
@@ -26,7 +26,7 @@ names_of tech wires = record {
   layers = map (λ (layer : RoutingLayer). layer.name) tech.routing;
   cuts = map (λ (layer : CutLayer). layer.name) tech.cuts;
   rules = map (λ (rule : ViaRule). rule.name) tech.rules;
-  vias = names_of_vias wires.vias;
+  vias = map via_name wires.vias;
 }
 
 -- The place of a name, 0 where it stands nowhere.

@@ -2,7 +2,7 @@ ghost use Rattle.std.specs.Prelude.{◌≡◌, map, IfOk};
 ghost use Rattle.lef_tech.specs.declared.layer.CutLayer.{CutLayer};
 ghost use Rattle.lef_tech.specs.declared.layer.RoutingLayer.{RoutingLayer};
 ghost use Rattle.lef_tech.specs.declared.rule.ViaRule.{ViaRule};
-ghost use Rattle.def_wiring.specs.Limits.{names_of_vias};
+ghost use Rattle.def_wiring.specs.Limits.{via_name};
 ghost use Rattle.wire_names.specs.Names.{names_of};
 ghost use Rattle.wire_names.specs.inside.Tables.{names_in};
 
@@ -66,7 +66,7 @@ fn rules<'a>(alloc: Global, tech: &'a Tech) -> Result<NamePlaces<'a>, AllocError
 }
 
 fn vias<'a>(alloc: Global, wires: &'a Wires) -> Result<NamePlaces<'a>, AllocError>
-    ensures { IfOk result (λ table. table ≡ names_of_vias wires.now.vias) }
+    ensures { IfOk result (λ table. table ≡ map via_name wires.now.vias) }
 {
     let mut names: Vec<&'a [u8]> = Vec::new(alloc);
     for via in wires.vias.as_slice() {

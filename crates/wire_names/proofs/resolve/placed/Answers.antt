@@ -7,8 +7,8 @@ use Rattle.wire_names.proofs.resolve.placed.Goals as goal
 
 pub shapes-requires : goal.shapes-requires
 shapes-requires c =
-    subst (All (λ (net : WiredNet). All SegmentKeeps net.segments)) (sym c.as_slice-2.ensures) (segments_keep c.args.wires.now.vias c.args.wires.now.nets c.requires.nets)
+    subst (All (λ (net : WiredNet). All SegmentKeeps net.segments)) (sym c.as_slice-2.ensures) (segments_keep c.args.wires.now.nets c.requires.nets)
 
 pub spots-requires : goal.spots-requires
 spots-requires c =
-    subst (All (λ (net : WiredNet). All LiesNear net.vias)) (sym c.as_slice-3.ensures) (places_near c.args.wires.now.vias c.args.wires.now.nets c.requires.nets)
+    subst (All (λ (net : WiredNet). All LiesNear net.vias)) (sym c.as_slice-3.ensures) (places_near c.args.wires.now.nets c.requires.nets)

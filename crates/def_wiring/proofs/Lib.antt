@@ -1,0 +1,9 @@
+pub mod Numbers
+pub mod Late
+pub mod Words
+pub mod Law
+pub mod Showing
+pub mod Faults
+pub mod Taking
+pub mod Limits
+pub mod One

@@ -1,5 +1,5 @@
 -- How far the metal of vias goes, and the smallest rectangle that holds it.
-use Rattle.std.proofs.Common.{◌≡◌, ℕ, ◌+◌, ◌*◌, ◌<◌, ◌≤◌, ◌^◌, ◌⊎◌, inl, inr, ℤ, pos, negsuc, ◌+ℤ◌, ◌-ℤ◌, ◌*ℤ◌, ◌≤ℤ◌, List, [], ◌∷◌, ◌++◌, All, Contains, length, get_or, take, refl, sym, ◌∙◌, ap, subst, arith}
+use Rattle.std.proofs.Common.{◌≡◌, ℕ, ◌+◌, ◌*◌, ◌<◌, ◌≤◌, ◌^◌, ◌⊎◌, inl, inr, ℤ, pos, negsuc, ◌+ℤ◌, ◌-ℤ◌, ◌*ℤ◌, ◌≤ℤ◌, ◌<ℤ◌, List, [], ◌∷◌, ◌++◌, All, Contains, length, get_or, take, refl, sym, ◌∙◌, ap, subst, arith}
 use Rattle.std.proofs.Math.Nat.{mul-le-mul_left}
 use Rattle.std.proofs.lemmas.Int.{ints}
 use Rattle.std.proofs.lemmas.List.{take_more, take_all}
@@ -124,7 +124,7 @@ product_least c (pos p) some more = let least = nat_least c p some in omega (ari
 product_least c (negsuc p) some more = absurd (omega (arith, ints))
 
 -- The metal of a via has a length.
-metal_some : (count : ℕ) (cut pitch enclosure : ℤ) → 1 ≤ count → pos 1 ≤ℤ cut → pos 1 ≤ℤ pitch → pos 0 ≤ℤ enclosure
+metal_some : (count : ℕ) (cut pitch enclosure : ℤ) → 1 ≤ count → pos 0 <ℤ cut → pos 1 ≤ℤ pitch → pos 0 ≤ℤ enclosure
     → pos 1 ≤ℤ metal_length count cut pitch enclosure
 metal_some count cut pitch enclosure some cut_some pitch_some not_less =
     let least = product_least count pitch some pitch_some in omega (arith, ints)

@@ -1,5 +1,5 @@
 -- Chains of vias: their layers go up by one, and what is asked of each of their vias holds.
-use Rattle.std.proofs.Common.{◌≡◌, ℕ, zero, suc, ◌+◌, ◌-◌, ◌<◌, List, [], ◌∷◌, All, Contains, length, get_or, slice_get, Option, Some, refl, sym, ◌∙◌, ap, subst, arith}
+use Rattle.std.proofs.Common.{◌≡◌, ℕ, zero, suc, ◌+◌, ◌<◌, List, [], ◌∷◌, All, Contains, length, get_or, refl, sym, ◌∙◌, ap, subst, arith}
 use Rattle.std.proofs.lemmas.List.Elements.{All-contains, Contains-get_or}
 use Rattle.std.proofs.lemmas.Option.{slice_get-get_or}
 use Rattle.def_wiring.specs.Limits.{IsNear}
@@ -11,7 +11,7 @@ use Rattle.wire_limits.specs.Vias.{IsUsed, HasItsLayers, HasSize, EachUsedHas}
 use Rattle.wire_names.specs.declared.record.NamedVia.{NamedVia}
 use Rattle.wire_names.specs.declared.record.Spot.{Spot}
 use Rattle.wire_names.specs.Keeping.{KeepsNumbers, ViaStands, SpotStands}
-use Rattle.wire_stacks.specs.Vias.{via_at, AreViasAt, IsViaAt}
+use Rattle.wire_stacks.specs.Vias.{via_at, AreViasAt}
 use Rattle.wire_stacks.specs.inside.Halves.{IsUsable}
 use Rattle.wire_stacks.specs.inside.Made.{IsChainOf}
 use Rattle.wire_stacks.proofs.Placing.{there}

@@ -2,13 +2,13 @@
 use Rattle.std.proofs.Common.{◌≡◌, ℕ, ◌+◌, ◌*◌, ◌<◌, ◌≤◌, ◌^◌, ◌⊎◌, inl, inr, ℤ, pos, negsuc, ◌+ℤ◌, ◌-ℤ◌, ◌*ℤ◌, ◌≤ℤ◌, ◌<ℤ◌, List, [], ◌∷◌, ◌++◌, All, Contains, length, get_or, take, refl, sym, ◌∙◌, ap, subst, arith}
 use Rattle.std.proofs.Math.Nat.{mul-le-mul_left}
 use Rattle.std.proofs.lemmas.Int.{ints}
-use Rattle.std.proofs.lemmas.List.{take_more, take_all}
+use Rattle.std.proofs.lemmas.List.{take_more}
 use Rattle.std.proofs.lemmas.List.Elements.{All-more, All-contains, Contains-push, Contains-append_left, Contains-get_or}
 use Rattle.geom_rect.specs.declared.rect.Rect.{Rect}
 use Rattle.wire_chains.specs.declared.via.ViaAt.{ViaAt}
 use Rattle.wire_names.specs.Keeping.{KeepsNumbers}
 use Rattle.wire_names.specs.declared.record.NamedVia.{NamedVia}
-use Rattle.wire_stacks.specs.Crossing.{IsCrossing, HoldsVia, HoldsVias, IsHeldBy, LiesIn, row_length, metal_length}
+use Rattle.wire_stacks.specs.Crossing.{IsCrossing, HoldsVia, IsHeldBy, row_length, metal_length}
 use Rattle.wire_stacks.specs.Vias.{via_at}
 use Rattle.wire_stacks.specs.inside.Halves.{around, ReachesX, ReachesY, IsHalf, IsHalfTo, IsLeastHalf}
 

@@ -1,13 +1,13 @@
 -- Vias at their places: their numbers, and that those at one place on one layer have a piece there alike.
-use Rattle.std.proofs.Common.{◌≡◌, ◌≢◌, ◌↔◌, ℕ, ◌+◌, ◌<◌, ℤ, pos, Bool, true, false, IsTrue, List, [], ◌∷◌, ◌++◌, All, AllPairs, Contains, length, get_or, slice_get, Option, Some, refl, sym, ◌∙◌, ap, subst, arith}
+use Rattle.std.proofs.Common.{◌≡◌, ◌↔◌, ℕ, ◌<◌, ℤ, pos, Bool, true, false, IsTrue, List, Contains, length, get_or, refl, sym, ◌∙◌, subst, arith}
 use Rattle.std.specs.List.Sorted.{IsPermutation}
 use Rattle.std.proofs.lemmas.Bool.{false≢true}
-use Rattle.std.proofs.lemmas.List.Elements.{Contains-get_or, All-contains}
+use Rattle.std.proofs.lemmas.List.Elements.{Contains-get_or}
 use Rattle.std.proofs.lemmas.List.Sorted.{Contains-permutation, IsPermutation-sym}
 use Rattle.std.proofs.lemmas.Option.{slice_get-get_or}
 use Rattle.grid_pieces.specs.declared.piece.Piece.{Piece}
 use Rattle.wire_chains.specs.declared.via.ViaAt.{ViaAt}
-use Rattle.wire_chains.specs.Chain.{AreNumbered, AreHeldAlike, LiesOn}
+use Rattle.wire_chains.specs.Chain.{AreNumbered, AreHeldAlike}
 use Rattle.wire_names.specs.declared.record.NamedVia.{NamedVia}
 use Rattle.wire_names.specs.declared.record.Spot.{Spot}
 use Rattle.wire_pieces.specs.Centre.{IsHeld}

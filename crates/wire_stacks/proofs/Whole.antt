@@ -1,5 +1,5 @@
 -- The stacks of all vias, or the first that has an end on no piece.
-use Rattle.std.proofs.Common.{◌≡◌, ℕ, ◌+◌, ◌-◌, ◌<◌, ◌≤◌, ℤ, pos, false, ◌⊎◌, inl, inr, List, [], ◌∷◌, All, AllPairs, Contains, length, map, get_or, slice_get, Option, Some, None, refl, sym, ◌∙◌, ap, subst, arith}
+use Rattle.std.proofs.Common.{◌≡◌, ℕ, ◌-◌, ◌<◌, pos, false, inl, inr, List, [], ◌∷◌, All, AllPairs, Contains, length, map, get_or, slice_get, Some, refl, sym, ◌∙◌, ap, subst, arith}
 use Rattle.std.specs.List.Sorted.{IsPermutation}
 use Rattle.std.specs.Option.{option_map}
 use Rattle.std.specs.Ordering.{is_gt}
@@ -19,11 +19,11 @@ use Rattle.wire_names.specs.Keeping.{ViaStands, SpotStands}
 use Rattle.wire_stacks.specs.declared.error.OffError.{OffError}
 use Rattle.wire_stacks.specs.declared.error.OffError.TheVariants.{ViaOff, Want}
 use Rattle.wire_stacks.specs.declared.made.Made.{Made}
-use Rattle.wire_stacks.specs.Stacks.{Stacked, AreStacked, AreStacks, AreOff, HasEnds, HasLowEnd, HasHighEnd, IsEndOff, StackStands}
-use Rattle.wire_stacks.specs.Vias.{via_at, AreViasAt}
-use Rattle.wire_stacks.specs.inside.Ends.{IsFirstMade, IsFirstMadeOff, IsMadeOff}
+use Rattle.wire_stacks.specs.Stacks.{Stacked, AreStacks, AreOff, HasEnds, IsEndOff, StackStands}
+use Rattle.wire_stacks.specs.Vias.{AreViasAt}
+use Rattle.wire_stacks.specs.inside.Ends.{IsFirstMadeOff, IsMadeOff}
 use Rattle.wire_stacks.specs.inside.Made.{AreMade, IsMade, made_order, stacked_of}
-use Rattle.wire_stacks.proofs.Chained.{layer_at, net_at, next_layer}
+use Rattle.wire_stacks.proofs.Chained.{layer_at, next_layer}
 use Rattle.wire_stacks.proofs.Placing.{held_moved, placed_moved, there}
 use Rattle.wire_stacks.proofs.Stacking.{made_at, are_stacked}
 

@@ -1,6 +1,6 @@
 -- Stacks of vias that are placed: a stack is a maximal chain of vias of one net at one place, each beginning on the layer on
 -- which the one before ends, with no piece of the net on that layer between the two.
-use Rattle.std.specs.Prelude.{◌≡◌, ◌⊎◌, ℕ, ◌+◌, ◌-◌, ◌<◌, ℤ, true, List, All, AllPairs, map, length, slice_index_or, Option, Some, slice_get}
+use Rattle.std.specs.Prelude.{◌≡◌, ◌⊎◌, ℕ, ◌+◌, ◌-◌, ◌<◌, ℤ, true, List, All, AllPairs, map, length, slice_index_or, Some, slice_get}
 use Rattle.std.specs.declared.cmp.Ordering.{Ordering}
 use Rattle.std.specs.declared.cmp.Ordering.TheVariants.{Equal}
 use Rattle.std.specs.Ordering.{nat_cmp, int_cmp, ordering_then, is_lt}

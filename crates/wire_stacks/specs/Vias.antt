@@ -1,6 +1,6 @@
 -- Vias at their places, and the arrays of cuts that they are (LEF/DEF 5.8 Language Reference, VIAS: VIARULE, CUTSIZE,
 -- CUTSPACING, ENCLOSURE, ROWCOL).
-use Rattle.std.specs.Prelude.{◌≡◌, ◌↔◌, ℕ, pos, IsTrue, List, length, slice_index_or, Option, Some, slice_get}
+use Rattle.std.specs.Prelude.{◌≡◌, ◌↔◌, ℕ, pos, IsTrue, List, length, slice_index_or, Some, slice_get}
 use Rattle.grid_pieces.specs.declared.piece.Piece.{Piece}
 use Rattle.via_arrays.specs.declared.parts.CutArray.{CutArray}
 use Rattle.wire_chains.specs.declared.via.ViaAt.{ViaAt}

@@ -1,5 +1,5 @@
 -- Ends of stacks that lie on no piece.
-use Rattle.std.specs.Prelude.{◌≡◌, ◌⊎◌, ℕ, ◌<◌, ℤ, List, Option, Some, slice_get}
+use Rattle.std.specs.Prelude.{◌≡◌, ◌⊎◌, ℕ, ◌<◌, ℤ, List, Some, slice_get}
 use Rattle.grid_pieces.specs.declared.piece.Piece.{Piece}
 use Rattle.wire_stacks.specs.declared.error.OffError.{OffError}
 use Rattle.wire_stacks.specs.declared.error.OffError.TheVariants.{ViaOff, Want}

@@ -1,5 +1,5 @@
 -- How far the metal of vias goes from their place.
-use Rattle.std.specs.Prelude.{ℕ, ◌<◌, ◌^◌, ℤ, pos, ◌+ℤ◌, ◌-ℤ◌, ◌≤ℤ◌, List, All, length}
+use Rattle.std.specs.Prelude.{◌<◌, ◌^◌, ℤ, pos, ◌+ℤ◌, ◌-ℤ◌, ◌≤ℤ◌, List, All, length}
 use Rattle.geom_rect.specs.declared.rect.Rect.{Rect}
 use Rattle.wire_chains.specs.declared.via.ViaAt.{ViaAt}
 use Rattle.wire_limits.specs.Vias.{HasSize}

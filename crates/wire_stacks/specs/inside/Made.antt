@@ -1,5 +1,5 @@
 -- Stacks that are made of chains, in the order of the chains and in that of a grid.
-use Rattle.std.specs.Prelude.{◌≡◌, ℕ, ◌-◌, ◌<◌, List, [], All, map, length, slice_index_or, Option, Some, slice_get}
+use Rattle.std.specs.Prelude.{◌≡◌, ℕ, ◌-◌, ◌<◌, List, [], All, length, slice_index_or, Some, slice_get}
 use Rattle.std.specs.declared.cmp.Ordering.{Ordering}
 use Rattle.std.specs.Ordering.{nat_cmp, ordering_then}
 use Rattle.def_wiring.specs.Limits.{IsNear}

@@ -1,4 +1,4 @@
-use Rattle.std.proofs.Common.{◌≡◌, ◌<◌, ℕ, take, map, length, slice_get, Some}
+use Rattle.std.proofs.Common.{◌≡◌, take, map}
 use Rattle.wire_chains.specs.declared.via.ViaAt.{ViaAt}
 use Rattle.wire_stacks.specs.Vias.{via_at, array_of}
 use Rattle.wire_stacks.proofs.array.arrays.Given as goal

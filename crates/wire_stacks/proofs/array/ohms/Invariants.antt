@@ -1,4 +1,4 @@
-use Rattle.std.proofs.Common.{◌≡◌, ◌<◌, ℕ, take, map, length, slice_get, Some}
+use Rattle.std.proofs.Common.{◌≡◌, ℕ, length, slice_get, Some}
 use Rattle.wire_chains.specs.declared.via.ViaAt.{ViaAt}
 use Rattle.via_arrays.specs.Pairs.{HasResistance}
 use Rattle.wire_stacks.specs.Vias.{via_at, array_of}

@@ -1,8 +1,7 @@
-use Rattle.std.proofs.Common.{◌≡◌, subst, sym, SFits, w64, rules, arith}
+use Rattle.std.proofs.Common.{subst, sym, SFits, w64, rules, arith}
 use Rattle.std.proofs.lemmas.Int.{ints, to_z-of_z}
 use Rattle.geom_rect.specs.Rect.{IsInOrder}
 use Rattle.wire_stacks.specs.Crossing.{IsCrossing}
-use Rattle.wire_stacks.specs.inside.Halves.{around}
 use Rattle.wire_stacks.proofs.Halving.{crossing_is}
 use Rattle.wire_stacks.proofs.crossing.crossing_of.Goals as goal
 

@@ -1,4 +1,4 @@
-use Rattle.std.proofs.Common.{pos, false, get_or, length, ap, subst, SFits, w64, to_z, rules, arith}
+use Rattle.std.proofs.Common.{pos, false, get_or, subst, SFits, w64, to_z, rules, arith}
 use Rattle.std.proofs.lemmas.Int.{to_z-of_z}
 use Rattle.std.proofs.lemmas.List.{get_or_default, take_all}
 use Rattle.std.proofs.lemmas.List.Elements.{All-contains}

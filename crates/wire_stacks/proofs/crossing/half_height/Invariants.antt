@@ -1,4 +1,4 @@
-use Rattle.std.proofs.Common.{◌≡◌, ◌<◌, ℕ, take, map, length, slice_get, Some}
+use Rattle.std.proofs.Common.{take}
 use Rattle.wire_stacks.specs.inside.Halves.{IsHalfTo, ReachesY}
 use Rattle.wire_stacks.proofs.crossing.half_height.Given as goal
 

@@ -1,4 +1,4 @@
-use Rattle.std.proofs.Common.{◌≡◌, ℤ, pos, ◌+ℤ◌, ◌*ℤ◌, ◌≤ℤ◌, SFits, w64, rules, arith}
+use Rattle.std.proofs.Common.{pos, ◌+ℤ◌, ◌*ℤ◌, SFits, w64, rules, arith}
 use Rattle.std.proofs.lemmas.Int.{ints, to_z-of_z}
 use Rattle.wire_stacks.proofs.crossing.half_of.Goals as goal
 

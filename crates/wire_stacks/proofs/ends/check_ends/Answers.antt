@@ -1,4 +1,4 @@
-use Rattle.std.proofs.Common.{◌≡◌, ◌<◌, length, get_or, refl, subst, arith}
+use Rattle.std.proofs.Common.{get_or, subst, arith}
 use Rattle.std.proofs.lemmas.Option.{slice_get-get_or}
 use Rattle.wire_stacks.specs.declared.made.Made.{Made}
 use Rattle.wire_stacks.specs.Stacks.{HasEnds}

@@ -1,4 +1,4 @@
-use Rattle.std.proofs.Common.{◌≡◌, ◌<◌, ℕ, take, map, length, slice_get, Some}
+use Rattle.std.proofs.Common.{◌≡◌, ◌<◌, ℕ, slice_get, Some}
 use Rattle.wire_stacks.specs.declared.made.Made.{Made}
 use Rattle.wire_stacks.specs.Stacks.{HasEnds}
 use Rattle.wire_stacks.proofs.ends.check_ends.Given as goal

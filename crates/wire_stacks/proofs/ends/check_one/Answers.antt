@@ -1,4 +1,4 @@
-use Rattle.std.proofs.Common.{◌≡◌, inr, refl, SFits, w64, rules}
+use Rattle.std.proofs.Common.{inr, refl, SFits, w64, rules}
 use Rattle.std.proofs.lemmas.Bool.{false≢true}
 use Rattle.std.proofs.lemmas.Int.{to_z-of_z}
 use Rattle.wire_stacks.proofs.ends.check_one.Goals as goal

@@ -1,4 +1,4 @@
-use Rattle.std.proofs.Common.{◌≡◌, ◌<◌, ℕ, take, map, length, slice_get, List, Some}
+use Rattle.std.proofs.Common.{◌≡◌, ℕ, length, slice_get, List, Some}
 use Rattle.wire_chains.specs.declared.via.ViaAt.{ViaAt}
 use Rattle.wire_stacks.specs.declared.made.Made.{Made}
 use Rattle.wire_stacks.specs.inside.Made.{IsMade}

@@ -1,8 +1,7 @@
-use Rattle.std.proofs.Common.{◌≡◌, pos, false, get_or, map, refl, sym, ◌∙◌, ap, subst, SFits, w64, arith}
+use Rattle.std.proofs.Common.{pos, false, get_or, refl, sym, ◌∙◌, subst, SFits, w64, arith}
 use Rattle.std.proofs.lemmas.Int.{ints, to_z-of_z}
 use Rattle.wire_chains.specs.declared.via.ViaAt.{ViaAt}
 use Rattle.wire_stacks.specs.Crossing.{IsCrossing}
-use Rattle.wire_stacks.specs.Vias.{via_at, array_of}
 use Rattle.wire_stacks.specs.inside.Made.{HaveResistances}
 use Rattle.wire_stacks.proofs.Stack.{stack_is}
 use Rattle.wire_stacks.proofs.made.stack_of.Goals as goal

@@ -1,4 +1,4 @@
-use Rattle.std.proofs.Common.{◌≡◌, pos, get_or, subst, sym, arith}
+use Rattle.std.proofs.Common.{pos, get_or, subst, sym, arith}
 use Rattle.std.proofs.lemmas.Grind.{common_steps}
 use Rattle.std.proofs.lemmas.List.{get_or_default}
 use Rattle.wire_names.specs.declared.record.Spot.{Spot}

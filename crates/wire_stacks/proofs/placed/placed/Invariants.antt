@@ -1,4 +1,4 @@
-use Rattle.std.proofs.Common.{◌≡◌, ◌<◌, ℕ, take, map, length, slice_get, Some}
+use Rattle.std.proofs.Common.{◌≡◌, ℕ, length, slice_get, Some}
 use Rattle.wire_chains.specs.declared.via.ViaAt.{ViaAt}
 use Rattle.wire_names.specs.declared.record.Spot.{Spot}
 use Rattle.wire_stacks.specs.Vias.{IsViaAt}

@@ -1,4 +1,4 @@
-use Rattle.std.proofs.Common.{◌≡◌, List, All, length, get_or, sym, subst}
+use Rattle.std.proofs.Common.{List, All, length, get_or, sym, subst}
 use Rattle.wire_chains.specs.declared.via.ViaAt.{ViaAt}
 use Rattle.wire_names.specs.declared.record.NamedVia.{NamedVia}
 use Rattle.wire_names.specs.declared.record.Spot.{Spot}

@@ -1,0 +1,4 @@
+pub mod Marks
+pub mod Search
+pub mod Stages
+pub mod Refused

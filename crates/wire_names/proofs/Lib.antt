@@ -1,0 +1,4 @@
+pub mod Found
+pub mod Ordered
+pub mod Steps
+pub mod Kept

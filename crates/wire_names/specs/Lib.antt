@@ -1,0 +1,5 @@
+pub mod Names
+pub mod Nets
+pub mod Wiring
+pub mod Keeping
+pub mod inside

@@ -1,0 +1,9 @@
+pub mod Lists
+pub mod Placing
+pub mod Halving
+pub mod Chained
+pub mod Stack
+pub mod Stacking
+pub mod Passed
+pub mod Whole
+pub mod Ordered

@@ -1,0 +1,6 @@
+use Rattle.std.proofs.Common.{take}
+use Rattle.wire_stacks.specs.inside.Halves.{IsHalfTo, ReachesX}
+use Rattle.wire_stacks.proofs.crossing.half_width.Given as goal
+
+abbrev pub invariant-loop-via : goal.invariant-loop-via
+invariant-loop-via l = IsHalfTo ReachesX l.vias (take l.via-index l.chain) l.half

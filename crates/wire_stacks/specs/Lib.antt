@@ -1,0 +1,4 @@
+pub mod Vias
+pub mod Crossing
+pub mod Stacks
+pub mod inside

@@ -1,0 +1,4 @@
+-- What only private contracts, loops and proofs speak of.
+pub mod Halves
+pub mod Made
+pub mod Ends

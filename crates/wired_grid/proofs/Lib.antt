@@ -1,0 +1,5 @@
+pub mod Shapes
+pub mod Kept
+pub mod Refused
+pub mod Passed
+pub mod Whole

@@ -9,9 +9,9 @@ use Rattle.grid_net.specs.declared.error.Quantity.{Quantity}
 use Rattle.grid_net.specs.declared.error.Quantity.TheVariants.{Nodes, Resistors, Resistance, Voltage, Loads}
 use Rattle.answers.specs.declared.built.Built.{Built as Numbers}
 use Rattle.answers.specs.declared.kind.TextKind.{TextKind}
-use Rattle.answers.specs.declared.kind.TextKind.TheVariants.{Syntax, OutOfProfileCard, FloatingSource, Number, OutOfRange, WrongNode, BadString, Substitution, Twice, UnknownLayer, BadTable, Polygon, RowForm, AlreadyRouted, MissingDesign, MissingUnits, MissingDieArea, AfterPdngen, UnknownCommand, OutOfProfile, UnknownOption, UnknownGrid, UnknownDomain, MissingOption, NetUse, Falling, UnknownNode}
+use Rattle.answers.specs.declared.kind.TextKind.TheVariants.{Syntax, OutOfProfileCard, FloatingSource, Number, OutOfRange, WrongNode, BadString, Substitution, Twice, UnknownLayer, BadTable, Polygon, RowForm, AlreadyRouted, MissingDesign, MissingUnits, MissingDieArea, AfterPdngen, UnknownCommand, OutOfProfile, UnknownOption, UnknownGrid, UnknownDomain, MissingOption, NetUse, Falling, UnknownNode, UnknownVia, WireForm, ViaForm}
 use Rattle.answers.specs.declared.answer.Answer.{Answer}
-use Rattle.answers.specs.declared.answer.Answer.TheVariants.{Usage, Want, ReadFault, WriteFault, TooLong, Refused, NoGrid, Range, TooManySteps, PadConflict, FloatingCapacitor, Unsupplied, Built, Generated, Solved, Stepped, Certified, NotCertified}
+use Rattle.answers.specs.declared.answer.Answer.TheVariants.{Usage, Want, ReadFault, WriteFault, TooLong, Refused, NoGrid, Range, TooManySteps, PadConflict, FloatingCapacitor, Unsupplied, Built, SignedOff, Generated, Solved, Stepped, Certified, NotCertified}
 
 -- The word for the test of a certificate that fails.
 abbrev pub side_word : Side → List ℕ
@@ -61,12 +61,15 @@ kind_words MissingOption = codes "MissingOption"
 kind_words NetUse = codes "NetUse"
 kind_words Falling = codes "Falling"
 kind_words UnknownNode = codes "UnknownNode"
+kind_words UnknownVia = codes "UnknownVia"
+kind_words WireForm = codes "WireForm"
+kind_words ViaForm = codes "ViaForm"
 
 -- A count and the words after it.
 abbrev pub counted : ℕ → List ℕ → List ℕ
 counted count words = decimal count ++ words
 
--- What was drawn, and the network extracted from it.
+-- The pieces and stacks of a grid, and the network extracted from it.
 abbrev pub grid_words : Numbers → List ℕ
 grid_words built =
     counted built.pieces (codes " pieces ") ++ counted built.stacks (codes " stacks ") ++ counted built.nodes (codes " nodes ")
@@ -78,7 +81,7 @@ verdict_words built =
     counted built.safe (codes " safe ") ++ counted built.unsafe_ (codes " unsafe ") ++ counted built.open (codes " open ")
     ++ counted built.unlimited (codes " unlimited ") ++ counted built.sweeps (codes " sweeps")
 
--- The exit status of a grid that is built: 1 where some verdict is UNSAFE or OPEN.
+-- The exit status of a grid that is built or signed off: 1 where some verdict is UNSAFE or OPEN.
 abbrev pub built_status : Numbers → ℕ
 built_status built = if (built.unsafe_ == 0) && (built.open == 0) then 0 else 1
 
@@ -97,6 +100,7 @@ status_of (PadConflict node first second) = 6
 status_of (FloatingCapacitor node) = 6
 status_of (Unsupplied node) = 7
 status_of (Built built) = built_status built
+status_of (SignedOff numbers) = built_status numbers
 status_of Generated = 0
 status_of (Solved nodes resistors sweeps) = 0
 status_of (Stepped nodes steps) = 0
@@ -122,6 +126,7 @@ words_of (PadConflict node first second) =
 words_of (FloatingCapacitor node) = codes "pdn: FloatingCapacitor " ++ node
 words_of (Unsupplied node) = codes "pdn: Unsupplied " ++ node
 words_of (Built built) = codes "built " ++ grid_words built ++ verdict_words built
+words_of (SignedOff numbers) = codes "signed " ++ grid_words numbers ++ verdict_words numbers
 words_of Generated = codes "generated"
 words_of (Solved nodes resistors sweeps) =
     codes "solved " ++ decimal nodes ++ codes " nodes " ++ decimal resistors ++ codes " resistors " ++ decimal sweeps

@@ -6,7 +6,7 @@ use crate::built::Built;
 use crate::kind::TextKind;
 use crate::line::{
     built_line, certified_line, conflict_line, file_line, not_certified_line, range_line,
-    refused_line, solved_line, stepped_line, steps_line,
+    refused_line, signed_line, solved_line, stepped_line, steps_line,
 };
 use bound_check::Side;
 use entry_list::Entries;
@@ -33,7 +33,7 @@ pub enum Answer {
         place: Place,
         kind: TextKind,
     },
-    /// No grid is drawn, or no network extracted from it: why, in words.
+    /// There is no grid, or no network is extracted from it: why, in words.
     NoGrid(Entries<u8>),
     /// A quantity of the network passes its limit. `at` is the place of the entry, from 0, or 0 for a number of the whole
     /// network.
@@ -56,6 +56,8 @@ pub enum Answer {
     Unsupplied(Name),
     /// The grid is drawn, certified and written, with these numbers.
     Built(Built),
+    /// The wiring that another tool drew is certified, and its texts are written, with these numbers.
+    SignedOff(Built),
     /// The texts of a made-up design are written.
     Generated,
     /// The network, of this many nodes and resistors, was certified in so many sweeps.
@@ -84,7 +86,7 @@ impl Answer {
         match self {
             Answer::Certified(_) | Answer::Generated => 0,
             Answer::Solved { .. } | Answer::Stepped { .. } => 0,
-            Answer::Built(built) => built.status(),
+            Answer::Built(numbers) | Answer::SignedOff(numbers) => numbers.status(),
             Answer::Usage => 2,
             Answer::ReadFault(_) | Answer::WriteFault(_) => 3,
             Answer::TooLong(_) | Answer::Refused { .. } => 4,
@@ -126,7 +128,8 @@ impl Answer {
                 file_line(alloc, b"pdn: FloatingCapacitor ", node.bytes(), b"\n")
             }
             Answer::Unsupplied(node) => file_line(alloc, b"pdn: Unsupplied ", node.bytes(), b"\n"),
-            Answer::Built(built) => built_line(alloc, *built),
+            Answer::Built(numbers) => built_line(alloc, *numbers),
+            Answer::SignedOff(numbers) => signed_line(alloc, *numbers),
             Answer::Generated => Vec::from_slice(alloc, b"generated\n"),
             Answer::Solved {
                 nodes,

@@ -1,14 +1,14 @@
-//! What a grid that is built comes to.
+//! What a grid that is built, or signed off, comes to.
 ghost use Rattle.std.specs.Prelude.{◌≡◌, ◌++◌, OnOk, decimal};
 ghost use Rattle.answers.specs.Answer.{built_status, counted, grid_words, verdict_words};
 
 use itoa::Buffer;
 use std::alloc::AllocError;
 
-/// The numbers of a grid that is built: what was drawn, its network, the verdicts, and the work of certification.
+/// The numbers of a grid that is built or signed off: its parts, its network, the verdicts, and the work of certification.
 #[derive(Clone, Copy, Debug, PartialEq, Eq)]
 pub struct Built {
-    /// How many pieces of metal were drawn: straps, rails and rings.
+    /// How many pieces of metal it has: straps, rails and rings.
     pub pieces: u64,
     /// How many stacks of cuts join pieces.
     pub stacks: u64,
@@ -42,7 +42,7 @@ impl Built {
         }
     }
 
-    /// Appends what was drawn, and its network.
+    /// Appends the parts of the grid, and its network.
     pub(crate) fn append_grid(self, line: &mut Vec<u8>) -> Result<(), AllocError>
         ensures { OnOk result (line.new.items ≡ line.old.items ++ grid_words self) }
     {

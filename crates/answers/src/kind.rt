@@ -63,6 +63,12 @@ pub enum TextKind {
     Falling,
     /// No group of a netlist's nodes has the name of a wave's line.
     UnknownNode,
+    /// A path of wiring ends with a name that is no generated via before it.
+    UnknownVia,
+    /// Wiring has metal that is not read, as a rectangle or a slanted segment, or a point after a via.
+    WireForm,
+    /// A via of wiring is turned or repeated, or has an origin, an offset or a pattern.
+    ViaForm,
 }
 
 impl TextKind {
@@ -100,6 +106,9 @@ impl TextKind {
             TextKind::NetUse => b"NetUse",
             TextKind::Falling => b"Falling",
             TextKind::UnknownNode => b"UnknownNode",
+            TextKind::UnknownVia => b"UnknownVia",
+            TextKind::WireForm => b"WireForm",
+            TextKind::ViaForm => b"ViaForm",
         }
     }
 }

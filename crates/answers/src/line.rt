@@ -159,6 +159,18 @@ pub(crate) fn built_line(alloc: Global, built: Built) -> Result<Vec<u8>, AllocEr
     Ok(line)
 }
 
+/// The line of a grid that is signed off.
+pub(crate) fn signed_line(alloc: Global, numbers: Built) -> Result<Vec<u8>, AllocError>
+    ensures { IfOk result
+        (λ line. line.items ≡ codes "signed " ++ grid_words numbers ++ verdict_words numbers ++ codes "\n") }
+{
+    let mut line = Vec::from_slice(alloc, b"signed ")?;
+    numbers.append_grid(&mut line)?;
+    numbers.append_verdicts(&mut line)?;
+    line.extend_from_slice(b"\n")?;
+    Ok(line)
+}
+
 /// The line of a network that was certified in so many sweeps.
 pub(crate) fn solved_line(
     alloc: Global,

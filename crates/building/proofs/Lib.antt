@@ -1,5 +1,5 @@
 mod Naming
 mod Reading
 mod Refusing
-mod Signs
+mod Building
 mod Sorts

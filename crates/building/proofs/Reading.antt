@@ -15,8 +15,7 @@ use Rattle.pdn_script.specs.Format.{ReadsScript}
 use Rattle.bias_file.specs.Format.{ReadsBias}
 use Rattle.building.specs.Inputs.{FileText, FiveTexts}
 use Rattle.building.specs.Kinds.{tech_kind, cells_kind, def_kind, script_kind, bias_kind}
-use Rattle.building.specs.Reading.{text_answer, AreCellsOf, IsRefused, HasLef, IsUnread}
-use Rattle.building.specs.inside.Stages.{AreCellsRefused}
+use Rattle.building.specs.Reading.{text_answer, AreCellsOf, AreCellsRefused, IsRefused, HasLef, IsUnread}
 
 -- An answer is handed on.
 pub handed_on : {A : Type 0} (P : Answer → Type 0) (r : Result A Answer) (answer : Answer) → IsErrAnd r (λ e. e ≡ answer) → P answer → IfErr r P

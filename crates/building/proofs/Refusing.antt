@@ -4,22 +4,16 @@ use Rattle.answers.specs.declared.answer.Answer.{Answer}
 use Rattle.answers.specs.declared.answer.Answer.TheVariants.{Want}
 use Rattle.grid_pieces.specs.declared.grid.Grid.{Grid}
 use Rattle.grid_pieces.specs.declared.error.DrawError.{DrawError}
-use Rattle.grid_network.specs.declared.error.ExtractError.{ExtractError}
-use Rattle.grid_extract.specs.Extraction.{IsExtractRefused}
 use Rattle.grid_shapes.specs.Drawing.{IsDrawRefused}
 use Rattle.building.specs.declared.records.Records.{Records}
 use Rattle.building.specs.Inputs.{FiveTexts}
 use Rattle.building.specs.Reading.{AreRecords}
-use Rattle.building.specs.Refusal.{draw_answer, extract_answer, IsUnbuilt}
-use Rattle.building.specs.inside.Stages.{IsUndrawn, IsUnextracted, IsUnbuiltOf}
+use Rattle.building.specs.Refusal.{draw_answer, IsUnbuilt}
+use Rattle.building.specs.inside.Stages.{IsUndrawn, IsUnbuiltOf}
 
 pub undrawn : (r : Records) (error : DrawError) (answer : Answer) → IsDrawRefused r.tech r.cells r.design r.script error → (answer ≡ Want) ⊎ (answer ≡ draw_answer r error) → IsUndrawn r answer
 undrawn r error answer refused (inl want) = inl want
 undrawn r error answer refused (inr told) = inr (error, refused, told)
-
-pub unextracted : (r : Records) (grid : Grid) (error : ExtractError) (answer : Answer) → IsExtractRefused grid r.tech r.cells r.design r.bias error → (answer ≡ Want) ⊎ (answer ≡ extract_answer r grid error) → IsUnextracted r grid answer
-unextracted r grid error answer refused (inl want) = inl want
-unextracted r grid error answer refused (inr told) = inr (error, refused, told)
 
 -- The texts have their records, and nothing is built of these.
 pub unbuilt : (t : FiveTexts) (r : Records) (answer : Answer) → AreRecords t r → IsUnbuiltOf r answer → IsUnbuilt t answer

@@ -13,7 +13,8 @@ use Rattle.grid_pieces.specs.declared.grid.Grid.{Grid}
 use Rattle.building.specs.declared.records.Records.{Records}
 use Rattle.building.specs.Inputs.{FiveTexts}
 use Rattle.building.specs.Reading.{text_answer, IsUnread}
-use Rattle.building.specs.Refusal.{draw_answer, net_answer, extract_answer, IsUnbuilt, IsToDesign}
+use Rattle.grid_signing.specs.Refusal.{net_answer}
+use Rattle.building.specs.Refusal.{draw_answer, extract_answer, IsUnbuilt, IsToDesign}
 
 text_is : (file : List ℕ) (place : Place) (kind : Option TextKind) → IsToDesign (text_answer file place kind)
 text_is file place None = tt

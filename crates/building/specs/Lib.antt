@@ -4,5 +4,4 @@ pub mod Reading
 pub mod Building
 pub mod Checked
 pub mod Refusal
-pub mod Solutions
 pub mod inside

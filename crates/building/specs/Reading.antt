@@ -72,6 +72,13 @@ pub record IsRefused {R K : Type 0} (reads : List ℕ → Result R (ReadError K)
 abbrev pub HasRecord : {R K : Type 0} → (List ℕ → Result R (ReadError K) → Type 0) → FileText → Type 0
 HasRecord {R} reads t = (r : R) × reads t.text (Ok r)
 
+-- Why two texts give no cells: memory ran out, the first is refused, or the second is and the first is not.
+abbrev pub AreCellsRefused : (lef other : FileText) → Answer → Type 0
+AreCellsRefused lef other answer =
+    (answer ≡ Want)
+    ⊎ (IsRefused ReadsCells cells_kind lef answer
+    ⊎ (HasRecord ReadsCells lef × IsRefused ReadsCells cells_kind other answer))
+
 -- The text that is refused first. The text of the technology is read as a technology and then for its cells.
 abbrev pub RefusesTech : FiveTexts → Answer → Type 0
 RefusesTech t answer = IsRefused ReadsTech tech_kind t.lef answer

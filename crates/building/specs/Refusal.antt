@@ -3,17 +3,15 @@ use Rattle.std.specs.Prelude.{◌≡◌, ◌⊎◌, ⊤, ℕ, List, Some, slice_
 use Rattle.answers.specs.declared.answer.Answer.{Answer}
 use Rattle.answers.specs.declared.answer.Answer.TheVariants.{Want, Refused, NoGrid, Range, Unsupplied}
 use Rattle.grid_extract.specs.Extraction.{IsExtractRefused}
-use Rattle.grid_net.specs.declared.error.NetError.{NetError}
-use Rattle.grid_net.specs.declared.error.NetError.TheVariants as net
 use Rattle.grid_net.specs.Level.{IsFirstUnsupplied}
 use Rattle.grid_network.specs.declared.error.ExtractError.{ExtractError}
-use Rattle.grid_network.specs.declared.error.ExtractError.TheVariants as extract
 use Rattle.grid_network.specs.declared.extracted.Extracted.{Extracted}
 use Rattle.grid_pieces.specs.declared.error.DrawError.{DrawError}
 use Rattle.grid_pieces.specs.declared.error.DrawError.TheVariants as draw
 use Rattle.grid_pieces.specs.declared.grid.Grid.{Grid}
 use Rattle.grid_shapes.specs.Drawing.{IsDrawRefused}
-use Rattle.refusal_words.specs.Words.{draw_words, extract_words}
+use Rattle.grid_signing.specs.Refusal.{extract_answer as unextracted_answer}
+use Rattle.refusal_words.specs.Words.{draw_words}
 use Rattle.building.specs.declared.records.Records.{Records}
 use Rattle.building.specs.Building.{IsGridOf, IsNetworkOfGrid}
 use Rattle.building.specs.Inputs.{FiveTexts}
@@ -24,18 +22,9 @@ abbrev pub draw_answer : Records → DrawError → Answer
 draw_answer r draw.Want = Want
 draw_answer r error = NoGrid (draw_words r.tech r.design r.script error)
 
--- The answer to lists that make no network. An entry at no node and two pads of one node that differ never come.
-abbrev pub net_answer : NetError → Answer
-net_answer (net.Range quantity at number) = Range quantity at number
-net_answer (net.BadEnd at) = Want
-net_answer (net.PadConflict node first second) = Want
-net_answer net.Want = Want
-
 -- The answer to a grid of which no network is extracted.
 abbrev pub extract_answer : Records → Grid → ExtractError → Answer
-extract_answer r grid extract.Want = Want
-extract_answer r grid (extract.Net error) = net_answer error
-extract_answer r grid error = NoGrid (extract_words grid r.design error)
+extract_answer r grid error = unextracted_answer r.design grid error
 
 -- The texts have their records, and the script draws no grid over the design.
 pub record DrawsNoGrid (t : FiveTexts) (answer : Answer) : Type 0 where

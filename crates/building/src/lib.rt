@@ -1,8 +1,8 @@
 //! A power grid built and signed off: from the bytes of a technology, cells, a placed design, a script and a bias file to
 //! the texts of the drawn grid, of its network, of a tight certificate and of the report.
 //!
-//! The order is: the texts are read, the grid is drawn, its network is extracted, the supply is tested, the network is
-//! certified out of what a solver proposes, and all texts are made before anything is written. The definitions stand in
+//! The order is: the texts are read, the grid is drawn, it is signed off, which is to extract its network, to test the
+//! supply and to certify the network out of what a solver proposes, and all texts are made before anything is written. The definitions stand in
 //! `specs/`.
 #![tactic(auto)]
 
@@ -13,11 +13,11 @@ mod laws;
 mod outputs;
 mod read_texts;
 mod records;
-mod signing;
 mod whole;
 
 pub use input::{Input, Inputs};
 pub use laws::answers_to_designs;
 pub use outputs::Outputs;
+pub use read_texts::{bias_of, joined_cells, placed_of, refused, tech_of};
 pub use records::Records;
 pub use whole::build;

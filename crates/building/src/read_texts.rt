@@ -5,7 +5,7 @@ ghost use Rattle.lef_tech.specs.Format.{ReadsTech};
 ghost use Rattle.lef_tech.specs.Limits.{TechKeeps};
 ghost use Rattle.lef_cells.specs.Format.{ReadsCells};
 ghost use Rattle.lef_cells.specs.Limits.{CellsKeep};
-ghost use Rattle.def_design.specs.Format.{ReadsDesign};
+ghost use Rattle.def_design.specs.Format.{ReadsDesign, ReadsPlaced};
 ghost use Rattle.def_design.specs.Limits.{DesignKeeps};
 ghost use Rattle.pdn_script.specs.Format.{ReadsScript};
 ghost use Rattle.pdn_script.specs.Limits.{ScriptKeeps};
@@ -13,15 +13,14 @@ ghost use Rattle.bias_file.specs.Format.{ReadsBias};
 ghost use Rattle.bias_file.specs.Limits.{BiasKeeps};
 ghost use Rattle.building.specs.Inputs.{file_text, five_texts};
 ghost use Rattle.building.specs.Kinds.{tech_kind, cells_kind, def_kind, script_kind, bias_kind};
-ghost use Rattle.building.specs.Reading.{text_answer, HasLayerNames, RecordsKeep, AreCellsOf, AreRecords, IsRefused, IsUnread};
-ghost use Rattle.building.specs.inside.Stages.{AreCellsRefused};
+ghost use Rattle.building.specs.Reading.{text_answer, HasLayerNames, RecordsKeep, AreCellsOf, AreCellsRefused, AreRecords, IsRefused, IsUnread};
 
 use crate::input::{Input, Inputs};
 use crate::kinds::{bias_kind, cells_kind, def_kind, script_kind, tech_kind};
 use crate::records::Records;
 use answers::{Answer, TextKind};
 use bias_file::{Bias, read_bias};
-use def_design::{Design, read_design};
+use def_design::{Design, read_design, read_placed};
 use lef_cells::{Cells, read_cells};
 use lef_tech::{Tech, read_tech};
 use outside::{Name, Place};
@@ -52,7 +51,9 @@ pub(crate) fn read_all(alloc: Global, inputs: &Inputs) -> Result<Records, Answer
 }
 
 /// The technology of a text.
-fn tech_of(alloc: Global, input: &Input) -> Result<Tech, Answer>
+///
+/// Error: the answer to a text that is refused, or to want of memory.
+pub fn tech_of(alloc: Global, input: &Input) -> Result<Tech, Answer>
     ensures reads { IfOk result (λ tech. ReadsTech input.now.text.now (Ok tech)) }
     ensures keeps { IfOk result TechKeeps }
     ensures names { IfOk result HasLayerNames }
@@ -65,8 +66,10 @@ fn tech_of(alloc: Global, input: &Input) -> Result<Tech, Answer>
     }
 }
 
-/// The cells of two texts.
-fn joined_cells(alloc: Global, lef: &Input, other: &Input) -> Result<Cells, Answer>
+/// The cells of two texts: those of the first, and of the second those whose names the first has not.
+///
+/// Error: the answer to the first text that is refused, or to want of memory.
+pub fn joined_cells(alloc: Global, lef: &Input, other: &Input) -> Result<Cells, Answer>
     ensures cells { IfOk result (AreCellsOf lef.now.text.now other.now.text.now) }
     ensures keep { IfOk result CellsKeep }
     ensures refused { IfErr result (AreCellsRefused (file_text lef.now) (file_text other.now)) }
@@ -103,6 +106,20 @@ fn design_of(alloc: Global, input: &Input) -> Result<Design, Answer>
     }
 }
 
+/// The design of a text whose nets may have wires, which are passed over.
+///
+/// Error: the answer to a text that is refused, or to want of memory.
+pub fn placed_of(alloc: Global, input: &Input) -> Result<Design, Answer>
+    ensures reads { IfOk result (λ design. ReadsPlaced input.now.text.now (Ok design)) }
+    ensures keeps { IfOk result DesignKeeps }
+    ensures refused { IfErr result (λ answer. (answer ≡ Want) ⊎ IsRefused ReadsPlaced def_kind (file_text input.now) answer) }
+{
+    match read_placed(alloc, input.text) {
+        Ok(design) => Ok(design),
+        Err(error) => Err(refused(alloc, input.file, error.place, def_kind(error.kind))),
+    }
+}
+
 /// The script of a text.
 fn script_of(alloc: Global, input: &Input) -> Result<Script, Answer>
     ensures reads { IfOk result (λ script. ReadsScript input.now.text.now (Ok script)) }
@@ -116,7 +133,9 @@ fn script_of(alloc: Global, input: &Input) -> Result<Script, Answer>
 }
 
 /// The bias file of a text.
-fn bias_of(alloc: Global, input: &Input) -> Result<Bias, Answer>
+///
+/// Error: the answer to a text that is refused, or to want of memory.
+pub fn bias_of(alloc: Global, input: &Input) -> Result<Bias, Answer>
     ensures reads { IfOk result (λ bias. ReadsBias input.now.text.now (Ok bias)) }
     ensures keeps { IfOk result BiasKeeps }
     ensures refused { IfErr result (λ answer. (answer ≡ Want) ⊎ IsRefused ReadsBias bias_kind (file_text input.now) answer) }
@@ -128,7 +147,7 @@ fn bias_of(alloc: Global, input: &Input) -> Result<Bias, Answer>
 }
 
 /// The answer to a text that is refused at a word for this reason, or for none but want of memory.
-fn refused(alloc: Global, file: &str, place: Place, kind: Option<TextKind>) -> Answer
+pub fn refused(alloc: Global, file: &str, place: Place, kind: Option<TextKind>) -> Answer
     ensures { (result ≡ Want) ⊎ (result ≡ text_answer file.now place kind) }
 {
     let Some(kind) = kind else {

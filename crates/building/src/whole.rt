@@ -1,28 +1,28 @@
 //! From the five texts to the outputs.
 ghost use Rattle.std.specs.Prelude.{◌≡◌, IsOk, IfOk, IfErr};
 ghost use Rattle.outside.specs.Counts.{Rose};
-ghost use Rattle.building.specs.Building.{Design, IsGridOf, IsDesignOf, AreOutputsOf};
+ghost use Rattle.building.specs.Building.{Design, IsGridOf, GridStands, IsDesignOf, AreOutputsOf, base_of};
 ghost use Rattle.building.specs.Checked.{PassesCheck};
 ghost use Rattle.building.specs.Inputs.{five_texts};
 ghost use Rattle.building.specs.Reading.{RecordsKeep};
 ghost use Rattle.building.specs.Refusal.{IsUnbuilt};
-ghost use Rattle.building.specs.Solutions.{SolutionsKeep};
-ghost use Rattle.building.specs.inside.Stages.{GridStands, IsBuiltOf, IsUnbuiltOf, SignsGrid, IsUnsigned};
+ghost use Rattle.building.specs.inside.Stages.{IsBuiltOf, IsUnbuiltOf, BuildsGrid};
+ghost use Rattle.grid_signing.specs.Basis.{base_of as base_of_basis};
+ghost use Rattle.grid_signing.specs.Refusal.{IsUnsigned};
+ghost use Rattle.grid_signing.specs.Solutions.{SolutionsKeep};
 
-use crate::drawing::{grid_of, network_of};
+use crate::drawing::grid_of;
 use crate::input::Inputs;
 use crate::outputs::Outputs;
 use crate::read_texts::read_all;
 use crate::records::Records;
-use crate::signing::sign_network;
 use answers::Answer;
-use drawn_grids::{
-    branches_are_of_the_grid, drawings_are_grids, each_node_has_a_name, limits_are_of_the_network,
-};
-use grid_limits::limits;
+use def_writer::def_text;
+use drawn_grids::{branches_are_of_the_grid, drawings_are_grids};
+use entry_list::Entries;
 use grid_net::Solver;
 use grid_pieces::Grid;
-use network_texts::extracted_networks_can_be_written;
+use grid_signing::{Basis, SignedGrid, sign_grid};
 use std::alloc::Global;
 
 /// Builds the power grid of five texts and signs it off with what the solver proposes.
@@ -58,13 +58,13 @@ fn build_of<V: Solver>(alloc: Global, records: &Records, solver: &mut V) -> Resu
     ensures told { V.told solver.new ≡ V.told solver.old }
 {
     match grid_of(alloc, records) {
-        Ok(grid) => sign_grid(alloc, records, &grid, solver),
+        Ok(grid) => build_grid(alloc, records, &grid, solver),
         Err(answer) => Err(answer),
     }
 }
 
-/// Signs off a drawn grid.
-fn sign_grid<V: Solver>(
+/// Builds a drawn grid.
+fn build_grid<V: Solver>(
     alloc: Global,
     records: &Records,
     grid: &Grid,
@@ -73,28 +73,48 @@ fn sign_grid<V: Solver>(
     requires keep { RecordsKeep records.now }
     requires grid { IsGridOf records.now grid.now }
     requires stands { GridStands records.now grid.now }
-    ensures signed { IfOk result (SignsGrid (V.told solver.old) records.now grid.now) }
-    ensures refused { IfErr result (IsUnsigned records.now grid.now) }
+    ensures built { IfOk result (BuildsGrid (V.told solver.old) records.now grid.now) }
+    ensures refused { IfErr result (IsUnsigned (base_of records.now) grid.now) }
     ensures asked { IsOk result → Rose (V.proposals solver.old) (V.proposals solver.new) }
     ensures told { V.told solver.new ≡ V.told solver.old }
 {
     drawings_are_grids();
-    each_node_has_a_name();
     branches_are_of_the_grid();
-    limits_are_of_the_network();
-    extracted_networks_can_be_written();
-    // More nets than 32 bits can number are want of memory.
-    if grid.nets.as_slice().len() > u32::MAX as usize {
-        return Err(Answer::Want);
-    }
-    let extracted = match network_of(alloc, records, grid) {
-        Ok(extracted) => extracted,
+    let signed = match sign_grid(alloc, &basis_of(records), grid, solver) {
+        Ok(signed) => signed,
         Err(answer) => return Err(answer),
     };
-    let keys = extracted.keys.as_slice();
-    let branches = extracted.branches.as_slice();
-    let Ok(limits) = limits(alloc, &records.tech, grid, keys, branches, &records.bias) else {
-        return Err(Answer::Want);
-    };
-    sign_network(alloc, records, grid, extracted, &limits, solver)
+    match def_text(alloc, &records.design, &records.tech, grid) {
+        Ok(def) => Ok(outputs_with(def, signed)),
+        Err(_) => Err(Answer::Want),
+    }
+}
+
+/// What a drawn grid is signed off over.
+fn basis_of(records: &Records) -> Basis<'_>
+    ensures { base_of_basis result ≡ base_of records.now }
+{
+    Basis {
+        tech: &records.tech,
+        cells: &records.cells,
+        design: &records.design,
+        bias: &records.bias,
+    }
+}
+
+/// The texts of a grid that is signed off, with the text of its design.
+fn outputs_with(def: Vec<u8>, signed: SignedGrid) -> Outputs
+    ensures def { result.def ≡ def.items }
+    ensures netlist { result.netlist ≡ signed.netlist }
+    ensures certificate { result.certificate ≡ signed.certificate }
+    ensures report { result.report ≡ signed.report }
+    ensures numbers { result.numbers ≡ signed.numbers }
+{
+    Outputs {
+        def: Entries::new(def),
+        netlist: signed.netlist,
+        certificate: signed.certificate,
+        report: signed.report,
+        numbers: signed.numbers,
+    }
 }

@@ -16,11 +16,11 @@ use Rattle.std.specs.Int.Signed.{non_neg}
 use Rattle.std.proofs.Math.Dec.{T}
 use Rattle.std.proofs.lemmas.Int.{ints, to_z-of_z, fits_signed_from_abs}
 use Rattle.command_words.specs.declared.command.Command.{Command}
-use Rattle.command_words.specs.declared.command.Command.TheVariants.{Build, Solve, Check, Step, Generate}
+use Rattle.command_words.specs.declared.command.Command.TheVariants.{Build, Solve, Check, Step, Signoff, Generate}
 use Rattle.command_words.specs.declared.command.WordsError.{WordsError}
 use Rattle.command_words.specs.Setting.{SetsEach, values_of}
-use Rattle.command_words.specs.Words.{build_options, solve_options, check_options, step_options, generate_options, AreApart, IsNumber, IsTime, seconds, IsStep, IsGenerate, IsCommand, IsUsage}
-use Rattle.command_words.specs.inside.Split.{HasNoEquals, texts, IsBuildOf, IsSolveOf, IsStepOf, IsGenerateOf}
+use Rattle.command_words.specs.Words.{build_options, solve_options, check_options, step_options, signoff_options, generate_options, AreApart, IsNumber, IsTime, seconds, IsStep, IsGenerate, IsCommand, IsUsage}
+use Rattle.command_words.specs.inside.Split.{HasNoEquals, texts, IsBuildOf, IsSolveOf, IsStepOf, IsSignoffOf, IsGenerateOf}
 use Rattle.command_words.proofs.Spelling.{settings_once, others_are, option_more, first_word, text_at}
 use Rattle.std.specs.Borrow.{Bor}
 use Rattle.std.specs.Prelude.{IsTrue, ◌↔◌, ◌-◌, drop}
@@ -112,6 +112,21 @@ check_step e = let t : 99 ≡ first_byte (codes "step") = ap first_byte e in abs
 generate_step : codes "generate" ≡ codes "step" → ⊥
 generate_step e = let t : 103 ≡ first_byte (codes "step") = ap first_byte e in absurd (omega arith)
 
+build_signoff : codes "build" ≡ codes "signoff" → ⊥
+build_signoff e = let t : 98 ≡ first_byte (codes "signoff") = ap first_byte e in absurd (omega arith)
+
+solve_signoff : codes "solve" ≡ codes "signoff" → ⊥
+solve_signoff e = let t : 111 ≡ second_byte (codes "signoff") = ap second_byte e in absurd (omega arith)
+
+check_signoff : codes "check" ≡ codes "signoff" → ⊥
+check_signoff e = let t : 99 ≡ first_byte (codes "signoff") = ap first_byte e in absurd (omega arith)
+
+generate_signoff : codes "generate" ≡ codes "signoff" → ⊥
+generate_signoff e = let t : 103 ≡ first_byte (codes "signoff") = ap first_byte e in absurd (omega arith)
+
+step_signoff : codes "step" ≡ codes "signoff" → ⊥
+step_signoff e = let t : 116 ≡ second_byte (codes "signoff") = ap second_byte e in absurd (omega arith)
+
 check_generate : codes "check" ≡ codes "generate" → ⊥
 check_generate e = let t : 99 ≡ first_byte (codes "generate") = ap first_byte e in absurd (omega arith)
 
@@ -121,6 +136,7 @@ no_check words none (Build a b c d e f g i j) h = build_check (sym (tails _ _ wo
 no_check words none (Solve a b c) h = solve_check (sym (tails _ _ words h.0 h.1).0)
 no_check words none (Generate a b c d e f g) h = check_generate (tails _ _ words h.0 h.1).0
 no_check words none (Step a b t s c d) h = check_step (tails _ _ words h.0 h.1).0
+no_check words none (Signoff a b c d e f g i) h = check_signoff (tails _ _ words h.0 h.1).0
 
 pub no_solve : (words : List (List ℕ)) → ((netlist certificate report : List ℕ) → SetsEach solve_options words (netlist ∷ certificate ∷ report ∷ []) → AreApart (certificate ∷ report ∷ []) → ⊥) → IsUsage (codes "solve" ∷ words)
 no_solve words none (Solve netlist certificate report) h =
@@ -129,6 +145,7 @@ no_solve words none (Build a b c d e f g i j) h = build_solve (sym (tails _ _ wo
 no_solve words none (Check a b) h = solve_check (tails _ _ words h.0 h.1).0
 no_solve words none (Generate a b c d e f g) h = solve_generate (tails _ _ words h.0 h.1).0
 no_solve words none (Step a b t s c d) h = solve_step (tails _ _ words h.0 h.1).0
+no_solve words none (Signoff a b c d e f g i) h = solve_signoff (tails _ _ words h.0 h.1).0
 
 pub no_build : (words : List (List ℕ)) → ((a b c d e f g i j : List ℕ) → SetsEach build_options words (a ∷ b ∷ c ∷ d ∷ e ∷ f ∷ g ∷ i ∷ j ∷ []) → AreApart (f ∷ g ∷ i ∷ j ∷ []) → ⊥) → IsUsage (codes "build" ∷ words)
 no_build words none (Build a b c d e f g i j) h =
@@ -137,6 +154,7 @@ no_build words none (Solve a b c) h = build_solve (tails _ _ words h.0 h.1).0
 no_build words none (Check a b) h = build_check (tails _ _ words h.0 h.1).0
 no_build words none (Generate a b c d e f g) h = build_generate (tails _ _ words h.0 h.1).0
 no_build words none (Step a b t s c d) h = build_step (tails _ _ words h.0 h.1).0
+no_build words none (Signoff a b c d e f g i) h = build_signoff (tails _ _ words h.0 h.1).0
 
 pub no_generate : (words : List (List ℕ)) → ((files : List (List ℕ)) (number side : ℕ) → IsGenerate words files number side → ⊥) → IsUsage (codes "generate" ∷ words)
 no_generate words none (Generate n s c d e f g) h = none (c ∷ d ∷ e ∷ f ∷ g ∷ []) n s (subst (λ z. IsGenerate z (c ∷ d ∷ e ∷ f ∷ g ∷ []) n s) (sym (tails _ _ words h.0 h.1).1) h.2)
@@ -144,6 +162,7 @@ no_generate words none (Build a b c d e f g i j) h = build_generate (sym (tails 
 no_generate words none (Solve a b c) h = solve_generate (sym (tails _ _ words h.0 h.1).0)
 no_generate words none (Check a b) h = check_generate (sym (tails _ _ words h.0 h.1).0)
 no_generate words none (Step a b t s c d) h = generate_step (tails _ _ words h.0 h.1).0
+no_generate words none (Signoff a b c d e f g i) h = generate_signoff (tails _ _ words h.0 h.1).0
 
 pub no_step : (words : List (List ℕ)) → ((a b c d : List ℕ) (time steps : ℕ) → IsStep words a b c d time steps → ⊥) → IsUsage (codes "step" ∷ words)
 no_step words none (Step a b t s c d) h = none a b c d t s (subst (λ z. IsStep z a b c d t s) (sym (tails _ _ words h.0 h.1).1) h.2)
@@ -151,6 +170,16 @@ no_step words none (Build a b c d e f g i j) h = build_step (sym (tails _ _ word
 no_step words none (Solve a b c) h = solve_step (sym (tails _ _ words h.0 h.1).0)
 no_step words none (Check a b) h = check_step (sym (tails _ _ words h.0 h.1).0)
 no_step words none (Generate a b c d e f g) h = generate_step (sym (tails _ _ words h.0 h.1).0)
+no_step words none (Signoff a b c d e f g i) h = step_signoff (tails _ _ words h.0 h.1).0
+
+pub no_signoff : (words : List (List ℕ)) → ((a b c d e f g i : List ℕ) → SetsEach signoff_options words (a ∷ b ∷ c ∷ d ∷ e ∷ f ∷ g ∷ i ∷ []) → AreApart (f ∷ g ∷ i ∷ []) → ⊥) → IsUsage (codes "signoff" ∷ words)
+no_signoff words none (Signoff a b c d e f g i) h =
+    none a b c d e f g i (subst (λ z. SetsEach signoff_options z (a ∷ b ∷ c ∷ d ∷ e ∷ f ∷ g ∷ i ∷ [])) (sym (tails _ _ words h.0 h.1).1) h.2) h.3
+no_signoff words none (Build a b c d e f g i j) h = build_signoff (sym (tails _ _ words h.0 h.1).0)
+no_signoff words none (Solve a b c) h = solve_signoff (sym (tails _ _ words h.0 h.1).0)
+no_signoff words none (Check a b) h = check_signoff (sym (tails _ _ words h.0 h.1).0)
+no_signoff words none (Generate a b c d e f g) h = generate_signoff (sym (tails _ _ words h.0 h.1).0)
+no_signoff words none (Step a b t s c d) h = step_signoff (sym (tails _ _ words h.0 h.1).0)
 
 -- ## one command
 
@@ -219,6 +248,20 @@ one_command one words (Step a b t s c d) (Build a' b' c' d' e' f' g' i' j') h k 
 one_command one words (Step a b t s c d) (Solve a' b' c') h k = absurd (solve_step (sym (tails _ _ h.0 k.0 (sym h.1 ∙ k.1)).0))
 one_command one words (Step a b t s c d) (Check a' b') h k = absurd (check_step (sym (tails _ _ h.0 k.0 (sym h.1 ∙ k.1)).0))
 one_command one words (Step a b t s c d) (Generate a' b' c' d' e' f' g') h k = absurd (generate_step (sym (tails _ _ h.0 k.0 (sym h.1 ∙ k.1)).0))
+one_command one words (Signoff a b c d e f g i) (Signoff a' b' c' d' e' f' g' i') h k =
+    let same = each_once signoff_options h.0 _ _ refl h.2 (subst (λ z. SetsEach signoff_options z (a' ∷ b' ∷ c' ∷ d' ∷ e' ∷ f' ∷ g' ∷ i' ∷ [])) (sym (tails _ _ h.0 k.0 (sym h.1 ∙ k.1)).1) k.2) in
+    let t : a ∷ b ∷ c ∷ d ∷ e ∷ f ∷ g ∷ i ∷ [] ≡ a' ∷ b' ∷ c' ∷ d' ∷ e' ∷ f' ∷ g' ∷ i' ∷ [] = same in
+    cc
+one_command one words (Build a b c d e f g i j) (Signoff a' b' c' d' e' f' g' i') h k = absurd (build_signoff (tails _ _ h.0 k.0 (sym h.1 ∙ k.1)).0)
+one_command one words (Signoff a b c d e f g i) (Build a' b' c' d' e' f' g' i' j') h k = absurd (build_signoff (sym (tails _ _ h.0 k.0 (sym h.1 ∙ k.1)).0))
+one_command one words (Solve a b c) (Signoff a' b' c' d' e' f' g' i') h k = absurd (solve_signoff (tails _ _ h.0 k.0 (sym h.1 ∙ k.1)).0)
+one_command one words (Signoff a b c d e f g i) (Solve a' b' c') h k = absurd (solve_signoff (sym (tails _ _ h.0 k.0 (sym h.1 ∙ k.1)).0))
+one_command one words (Check a b) (Signoff a' b' c' d' e' f' g' i') h k = absurd (check_signoff (tails _ _ h.0 k.0 (sym h.1 ∙ k.1)).0)
+one_command one words (Signoff a b c d e f g i) (Check a' b') h k = absurd (check_signoff (sym (tails _ _ h.0 k.0 (sym h.1 ∙ k.1)).0))
+one_command one words (Generate a b c d e f g) (Signoff a' b' c' d' e' f' g' i') h k = absurd (generate_signoff (tails _ _ h.0 k.0 (sym h.1 ∙ k.1)).0)
+one_command one words (Signoff a b c d e f g i) (Generate a' b' c' d' e' f' g') h k = absurd (generate_signoff (sym (tails _ _ h.0 k.0 (sym h.1 ∙ k.1)).0))
+one_command one words (Step a b t s c d) (Signoff a' b' c' d' e' f' g' i') h k = absurd (step_signoff (tails _ _ h.0 k.0 (sym h.1 ∙ k.1)).0)
+one_command one words (Signoff a b c d e f g i) (Step a' b' t' s' c' d') h k = absurd (step_signoff (sym (tails _ _ h.0 k.0 (sym h.1 ∙ k.1)).0))
 
 -- ## commands that are made of values
 
@@ -229,6 +272,7 @@ made_build words values (Solve a b c) made each apart = absurd made
 made_build words values (Check a b) made each apart = absurd made
 made_build words values (Generate a b c d e f g) made each apart = absurd made
 made_build words values (Step a b t s c d) made each apart = absurd made
+made_build words values (Signoff a b c d e f g i) made each apart = absurd made
 
 pub made_solve : (words values : List (List ℕ)) (command : Command) → IsSolveOf values command → SetsEach solve_options words values → AreApart (drop 1 values) → IsCommand (codes "solve" ∷ words) command
 made_solve words values (Solve a b c) made each apart =
@@ -237,6 +281,7 @@ made_solve words values (Build a b c d e f g i j) made each apart = absurd made
 made_solve words values (Check a b) made each apart = absurd made
 made_solve words values (Generate a b c d e f g) made each apart = absurd made
 made_solve words values (Step a b t s c d) made each apart = absurd made
+made_solve words values (Signoff a b c d e f g i) made each apart = absurd made
 
 pub made_generate : (words values : List (List ℕ)) (number side : ℕ) (command : Command) → IsGenerateOf values number side command → SetsEach generate_options words values → AreApart (drop 2 values) →
     IsNumber (get_or values 0 []) number → IsNumber (get_or values 1 []) side → number < 2 ^ 64 → 24 ≤ side → side ≤ 300 → IsCommand (codes "generate" ∷ words) command
@@ -259,6 +304,7 @@ made_generate words values number side (Build a b c d e f g i j) made each apart
 made_generate words values number side (Solve a b c) made each apart first second fits least greatest = absurd made
 made_generate words values number side (Check a b) made each apart first second fits least greatest = absurd made
 made_generate words values number side (Step a b t s c d) made each apart first second fits least greatest = absurd made
+made_generate words values number side (Signoff a b c d e f g i) made each apart first second fits least greatest = absurd made
 
 pub made_step : (words values : List (List ℕ)) (time steps : ℕ) (command : Command) → IsStepOf values time steps command → SetsEach step_options words values → AreApart (drop 4 values) →
     IsTime (get_or values 0 []) time → IsNumber (get_or values 1 []) steps → 1 ≤ steps → steps ≤ 1000 → IsCommand (codes "step" ∷ words) command
@@ -280,6 +326,16 @@ made_step words values time steps (Build a b c d e f g i j) made each apart firs
 made_step words values time steps (Solve a b c) made each apart first second least greatest = absurd made
 made_step words values time steps (Check a b) made each apart first second least greatest = absurd made
 made_step words values time steps (Generate a b c d e f g) made each apart first second least greatest = absurd made
+made_step words values time steps (Signoff a b c d e f g i) made each apart first second least greatest = absurd made
+
+pub made_signoff : (words values : List (List ℕ)) (command : Command) → IsSignoffOf values command → SetsEach signoff_options words values → AreApart (drop 5 values) → IsCommand (codes "signoff" ∷ words) command
+made_signoff words values (Signoff a b c d e f g i) made each apart =
+    (words, refl, subst (λ z. SetsEach signoff_options words z) made each, subst (λ z. AreApart (drop 5 z)) made apart)
+made_signoff words values (Build a b c d e f g i j) made each apart = absurd made
+made_signoff words values (Solve a b c) made each apart = absurd made
+made_signoff words values (Check a b) made each apart = absurd made
+made_signoff words values (Generate a b c d e f g) made each apart = absurd made
+made_signoff words values (Step a b t s c d) made each apart = absurd made
 
 -- ## values that are not apart
 
@@ -333,7 +389,7 @@ pub t7 : (xs : List (Bor (List ℕ))) (d : Bor (List ℕ)) → length xs ≡ 7 �
 t7 [] d h = absurd (omega arith)
 t7 (x ∷ xs) d h = ap (λ z. x.now ∷ z) (t6 xs d (omega arith))
 
-t8 : (xs : List (Bor (List ℕ))) (d : Bor (List ℕ)) → length xs ≡ 8 →
+pub t8 : (xs : List (Bor (List ℕ))) (d : Bor (List ℕ)) → length xs ≡ 8 →
     texts xs ≡ (get_or xs 0 d).now ∷ (get_or xs 1 d).now ∷ (get_or xs 2 d).now ∷ (get_or xs 3 d).now ∷ (get_or xs 4 d).now ∷ (get_or xs 5 d).now ∷ (get_or xs 6 d).now ∷ (get_or xs 7 d).now ∷ []
 t8 [] d h = absurd (omega arith)
 t8 (x ∷ xs) d h = ap (λ z. x.now ∷ z) (t7 xs d (omega arith))

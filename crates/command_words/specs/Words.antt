@@ -2,7 +2,7 @@
 use Rattle.std.specs.Prelude.{◌≡◌, ◌≢◌, ◌<◌, ◌≤◌, ◌^◌, ℕ, pos, List, [], ◌∷◌, AllPairs, Ok, codes}
 use Rattle.std.specs.Str.Parse.{IsNumeral, digits_value}
 use Rattle.command_words.specs.declared.command.Command.{Command}
-use Rattle.command_words.specs.declared.command.Command.TheVariants.{Build, Solve, Check, Step, Generate}
+use Rattle.command_words.specs.declared.command.Command.TheVariants.{Build, Solve, Check, Step, Signoff, Generate}
 use Rattle.command_words.specs.Setting.{SetsEach}
 use Rattle.number_place.specs.declared.place.NumberPlace.{NumberPlace}
 use Rattle.number_place.specs.declared.place.NumberForm.TheVariants.{Scaled}
@@ -30,6 +30,11 @@ abbrev pub step_options : List (List ℕ)
 step_options =
     codes "--time" ∷ codes "--steps" ∷ codes "--netlist" ∷ codes "--waves" ∷ codes "--certificate" ∷ codes "--report"
     ∷ []
+
+abbrev pub signoff_options : List (List ℕ)
+signoff_options =
+    codes "--lef" ∷ codes "--cells" ∷ codes "--def" ∷ codes "--wires" ∷ codes "--bias" ∷ codes "--netlist"
+    ∷ codes "--certificate" ∷ codes "--report" ∷ []
 
 -- No two outputs have one name.
 abbrev pub AreApart : List (List ℕ) → Type 0
@@ -88,6 +93,11 @@ IsCommand words (Check netlist certificate) =
 IsCommand words (Step netlist waves time steps certificate report) =
     (others : List (List ℕ)) × (words ≡ codes "step" ∷ others)
     × IsStep others netlist waves certificate report time steps
+IsCommand words (Signoff lef cells design wires bias netlist certificate report) =
+    (others : List (List ℕ)) × (words ≡ codes "signoff" ∷ others)
+    × SetsEach signoff_options others
+    (lef ∷ cells ∷ design ∷ wires ∷ bias ∷ netlist ∷ certificate ∷ report ∷ [])
+    × AreApart (netlist ∷ certificate ∷ report ∷ [])
 IsCommand words (Generate number side lef cells design pdn bias) =
     (others : List (List ℕ)) × (words ≡ codes "generate" ∷ others)
     × IsGenerate others (lef ∷ cells ∷ design ∷ pdn ∷ bias ∷ []) number side

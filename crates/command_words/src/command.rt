@@ -8,6 +8,7 @@ use crate::build::build;
 use crate::file_name::FileName;
 use crate::generate::generate;
 use crate::short::{check, solve};
+use crate::signoff::signoff;
 use crate::step::step;
 use number_place::texts_have_one_number;
 use outside::Argv;
@@ -60,6 +61,25 @@ pub enum Command {
         time: u128,
         /// How many steps there are after the first state, from 1 to 1000.
         steps: u32,
+        /// The certificate, which is written.
+        certificate: FileName,
+        /// The report, which is written.
+        report: FileName,
+    },
+    /// Signs off a network that another tool drew over a design.
+    Signoff {
+        /// The technology in LEF.
+        lef: FileName,
+        /// The cells in LEF.
+        cells: FileName,
+        /// The placed design in DEF.
+        def: FileName,
+        /// The wiring in DEF.
+        wires: FileName,
+        /// The bias file.
+        bias: FileName,
+        /// The netlist, which is written.
+        netlist: FileName,
         /// The certificate, which is written.
         certificate: FileName,
         /// The report, which is written.
@@ -129,6 +149,9 @@ fn command_of(alloc: Global, words: &[&str]) -> Result<Command, WordsError>
     if name == "step" {
         return step(alloc, others);
     }
+    if name == "signoff" {
+        return signoff(alloc, others);
+    }
     Err(WordsError::Usage)
 }
 
@@ -144,9 +167,10 @@ fn command_of(alloc: Global, words: &[&str]) -> Result<Command, WordsError>
 /// | `check` | `--netlist --certificate` |
 /// | `generate` | `--number --side --lef --cells --def --pdn --bias` |
 /// | `step` | `--netlist --waves --time --steps --certificate --report` |
+/// | `signoff` | `--lef --cells --def --wires --bias --netlist --certificate --report` |
 ///
-/// The files that a command writes have different names: of `build` the last four, of `solve` and `step` the last two, of
-/// `generate` all. A number is ASCII digits: that of `--number` fits 64 bits, that of `--side` is from 24 to 300, that of
+/// The files that a command writes have different names: of `build` the last four, of `signoff` the last three, of `solve`
+/// and `step` the last two, of `generate` all. A number is ASCII digits: that of `--number` fits 64 bits, that of `--side` is from 24 to 300, that of
 /// `--steps` from 1 to 1000. That of `--time` is in seconds, with a scale or none, at 18 places, above 0 and at most 1 s.
 ///
 /// `Usage` comes exactly where the words are those of no command.

@@ -10,6 +10,7 @@ mod generate;
 mod number;
 mod settings;
 mod short;
+mod signoff;
 mod step;
 
 pub use command::{Command, WordsError, read, words_have_one_command};

@@ -7,3 +7,4 @@ pub mod Faults
 pub mod Taking
 pub mod Limits
 pub mod One
+pub mod written

@@ -379,14 +379,6 @@ other_ended there word old now none clears said before =
 
 -- ## units that say nothing
 
-pub same_act : (act : Act) → (act ≡ acts.EndsVia → ⊥) → (act ≡ acts.Point → ⊥) → (act ≡ acts.Place → ⊥) → (act ≡ acts.EndsNet → ⊥) →
-    (there : Standing) (word : Token) (said : Said) → said_by act there word said ≡ said
-same_act acts.EndsVia a b c d there word said = absurd (a refl)
-same_act acts.Point a b c d there word said = absurd (b refl)
-same_act acts.Place a b c d there word said = absurd (c refl)
-same_act acts.EndsNet a b c d there word said = absurd (d refl)
-same_act act a b c d there word said = refl
-
 pub same_one : (section : Section) → (section ≡ places.Via → ⊥) → (section ≡ places.Net → ⊥) → (there : Standing) (word : Token) (said : Said) →
     said_unit section there (word ∷ []) said ≡ said
 same_one places.Via a b there word said = absurd (a refl)

@@ -23,7 +23,7 @@ mod via;
 mod wire;
 
 pub use error::{WiresError, WiresKind};
-pub use laws::texts_have_one_wiring;
+pub use laws::{texts_have_one_wiring, whole_wires_are_read, written_wires_are_read};
 pub use number::WIRE_LIMIT;
 pub use read::read_wires;
 pub use record::{Segment, ViaDef, ViaPlace, WiredNet, Wires};

@@ -6,82 +6,15 @@ use def_design::read_design;
 use def_writer::def_text;
 use entry_list::Entries;
 use geom_rect::{Axis, Rect, Shape};
+use grid_gen::TECHNOLOGY;
 use grid_pieces::{Grid, Piece, StackAt};
 use lef_tech::read_tech;
 use outside::Name;
+use small_design::{DESIGN, WRITTEN};
 use std::alloc::{AllocError, Global};
 use std::test::Fail;
 use via_arrays::{CutArray, Stack};
 use wiring_file::read_wiring;
-
-/// Four routing layers and the three rules that join them.
-const TECHNOLOGY: &[u8] = b"VERSION 5.8 ;
-LAYER metal1
-  TYPE ROUTING ;
-  DIRECTION HORIZONTAL ;
-END metal1
-LAYER via1
-  TYPE CUT ;
-END via1
-LAYER metal2
-  TYPE ROUTING ;
-  DIRECTION VERTICAL ;
-END metal2
-LAYER via2
-  TYPE CUT ;
-END via2
-LAYER metal3
-  TYPE ROUTING ;
-  DIRECTION HORIZONTAL ;
-END metal3
-LAYER via3
-  TYPE CUT ;
-END via3
-LAYER metal4
-  TYPE ROUTING ;
-  DIRECTION VERTICAL ;
-END metal4
-VIARULE Via1Array GENERATE
-  LAYER metal1 ;
-    ENCLOSURE 0 0.035 ;
-  LAYER metal2 ;
-    ENCLOSURE 0 0.035 ;
-  LAYER via1 ;
-    RECT -0.035 -0.035 0.035 0.035 ;
-    SPACING 0.15 BY 0.15 ;
-END Via1Array
-VIARULE Via2Array GENERATE
-  LAYER metal2 ;
-    ENCLOSURE 0 0.035 ;
-  LAYER metal3 ;
-    ENCLOSURE 0 0.035 ;
-  LAYER via2 ;
-    RECT -0.035 -0.035 0.035 0.035 ;
-    SPACING 0.15 BY 0.15 ;
-END Via2Array
-VIARULE Via3Array GENERATE
-  LAYER metal3 ;
-    ENCLOSURE 0 0.035 ;
-  LAYER metal4 ;
-    ENCLOSURE 0 0.035 ;
-  LAYER via3 ;
-    RECT -0.035 -0.035 0.035 0.035 ;
-    SPACING 0.15 BY 0.15 ;
-END Via3Array
-END LIBRARY
-";
-
-/// The small design: a row of cells and one cell.
-const DESIGN: &[u8] = b"VERSION 5.8 ;
-DESIGN small ;
-UNITS DISTANCE MICRONS 2000 ;
-DIEAREA ( 0 0 ) ( 8000 2800 ) ;
-ROW r0 unit 0 0 N DO 20 BY 1 STEP 400 0 ;
-COMPONENTS 1 ;
-- u1 C0 + PLACED ( 2400 0 ) N ;
-END COMPONENTS
-END DESIGN
-";
 
 /// A rail and a strap for each of the nets VDD and VSS.
 const PIECES: [Piece; 4] = [
@@ -169,37 +102,6 @@ const ARRAYS: [CutArray; 3] = [
         upper_y: 70,
     },
 ];
-
-/// Its grid as DEF.
-pub(crate) const WRITTEN: &[u8] = b"VERSION 5.8 ;
-DIVIDERCHAR \"/\" ;
-BUSBITCHARS \"[]\" ;
-DESIGN small ;
-UNITS DISTANCE MICRONS 2000 ;
-DIEAREA ( 0 0 ) ( 8000 2800 ) ;
-VIAS 3 ;
-- pdn_1_3_1 + VIARULE Via1Array + CUTSIZE 140 140 + LAYERS metal1 via1 metal2 + CUTSPACING 160 160 + ENCLOSURE 70 0 0 70 + ROWCOL 1 3 ;
-- pdn_2_3_1 + VIARULE Via2Array + CUTSIZE 140 140 + LAYERS metal2 via2 metal3 + CUTSPACING 160 160 + ENCLOSURE 0 70 70 0 + ROWCOL 1 3 ;
-- pdn_3_3_1 + VIARULE Via3Array + CUTSIZE 140 140 + LAYERS metal3 via3 metal4 + CUTSPACING 160 160 + ENCLOSURE 70 0 0 70 + ROWCOL 1 3 ;
-END VIAS
-SPECIALNETS 2 ;
-- VDD + USE POWER
-+ ROUTED metal1 340 + SHAPE FOLLOWPIN ( 0 2800 ) ( 8000 2800 )
-NEW metal4 960 + SHAPE STRIPE ( 6000 -170 ) ( 6000 2970 )
-NEW metal1 0 + SHAPE STRIPE ( 6000 2800 ) pdn_1_3_1
-NEW metal2 0 + SHAPE STRIPE ( 6000 2800 ) pdn_2_3_1
-NEW metal3 0 + SHAPE STRIPE ( 6000 2800 ) pdn_3_3_1
-;
-- VSS + USE GROUND
-+ ROUTED metal1 340 + SHAPE FOLLOWPIN ( 0 0 ) ( 8000 0 )
-NEW metal4 960 + SHAPE STRIPE ( 2000 -170 ) ( 2000 2970 )
-NEW metal1 0 + SHAPE STRIPE ( 2000 0 ) pdn_1_3_1
-NEW metal2 0 + SHAPE STRIPE ( 2000 0 ) pdn_2_3_1
-NEW metal3 0 + SHAPE STRIPE ( 2000 0 ) pdn_3_3_1
-;
-END SPECIALNETS
-END DESIGN
-";
 
 /// A stack of these arrays.
 fn stack(alloc: Global, net: u32, x: i64, y: i64) -> Result<StackAt, AllocError>

@@ -1,8 +1,8 @@
 //! The wiring of the small design, and texts of other forms, whose refusals were worked out from the form.
-use crate::small_design_tests::WRITTEN;
 use WiringKind::{BadString, Number, Syntax};
 use fixed_decimal::DecimalError::{NotNumber, Range};
 use outside::Place;
+use small_design::WRITTEN;
 use std::alloc::Global;
 use std::test::Fail;
 use wiring_file::*;

@@ -18,5 +18,4 @@ pub mod Ended
 pub mod Ruled
 pub mod Assembled
 pub mod Tabled
-pub mod Unique
 pub mod OneNetwork

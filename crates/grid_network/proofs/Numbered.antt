@@ -1,22 +1,21 @@
 -- The numbers of the nodes.
-use Rattle.std.proofs.Common.{◌≡◌, ◌≢◌, ◌⊎◌, inl, inr, ℕ, ◌+◌, ◌<◌, ◌≤◌, ◌&&◌, ◌==◌, Bool, true, false, cond, ltb, ℤ, Some, None, List, All, AllPairs, Contains, length, get_or, set, refl, sym, subst, ap, ◌∙◌, arith}
+use Rattle.std.proofs.Common.{◌≡◌, ◌≢◌, ◌⊎◌, inl, inr, ℕ, ◌+◌, ◌<◌, ◌≤◌, Bool, true, false, cond, ltb, ℤ, Some, None, List, All, AllPairs, Contains, length, get_or, set, refl, sym, subst, ap, ◌∙◌, arith}
 use Rattle.std.specs.Prelude.{◌<ℤ◌}
-use Rattle.std.specs.Bool.{Decides}
 use Rattle.std.specs.Cmp.{IsTotalOrder}
 use Rattle.std.specs.List.{position_or_len}
 use Rattle.std.specs.List.Sorted.{IsSortedBy, IsStrictlySortedBy}
 use Rattle.std.specs.Option.{unwrap_or}
-use Rattle.std.specs.Ordering.{ordering_then, ordering_reverse, nat_cmp, int_cmp, int_eq, is_lt, MatchOrdering}
+use Rattle.std.specs.Ordering.{ordering_then, ordering_reverse, nat_cmp, int_cmp, is_lt, MatchOrdering}
 use Rattle.std.specs.declared.cmp.Ordering.{Ordering}
 use Rattle.std.specs.declared.cmp.Ordering.TheVariants.{Less, Equal, Greater}
-use Rattle.std.proofs.lemmas.Bool.{cases_lt, and_parts, and_from, lt-ltb, le-ltb}
-use Rattle.std.proofs.lemmas.Bool.Decides.{Decides-eqb, Decides-int_eq}
+use Rattle.std.proofs.lemmas.Bool.{cases_lt, lt-ltb, le-ltb}
 use Rattle.std.proofs.lemmas.Cmp.{ranked, int_ranked, nat_cmp_total, int_cmp_total, on_total, then_total}
 use Rattle.std.proofs.lemmas.List.{get_or-set_same, get_or-set_other}
 use Rattle.std.proofs.lemmas.List.Sums.{position_or_len_is}
 use Rattle.std.proofs.lemmas.Map.Keys.{Less-from_sorted}
 use Rattle.grid_network.specs.declared.key.Key.{Key}
 use Rattle.grid_network.specs.Nodes.{same_key, number_of}
+use Rattle.grid_network.specs.Laws.Keys.{one_key, same_itself}
 use Rattle.grid_network.specs.inside.Steps.{key_cmp}
 
 pub put_more : (places keys : List Key) (numbers : List ℕ) (i : ℕ) (d : Key) → length keys ≡ length places → length numbers ≡ length places
@@ -34,31 +33,6 @@ put_more places keys numbers i d long each within differ here before k below = b
         let same : i ≡ k = omega arith in
         subst (λ (m : ℕ). get_or (set keys (get_or numbers i 0) (get_or places i d)) (get_or numbers m 0) d ≡ get_or places m d) same
         (get_or-set_same keys (get_or numbers i 0) (get_or places i d) d in_keys)
-
--- ---- one point
-
-same_key_decides : (a b : Key) → Decides (same_key a b) ((a.net ≡ b.net) × (a.layer ≡ b.layer) × (a.x ≡ b.x) × (a.y ≡ b.y))
-same_key_decides a b = (λ h. there h, λ h. back h)
-  where
-    there : same_key a b ≡ true → (a.net ≡ b.net) × (a.layer ≡ b.layer) × (a.x ≡ b.x) × (a.y ≡ b.y)
-    there h =
-        let three = and_parts ((a.net == b.net) && (a.layer == b.layer) && int_eq a.x b.x) (int_eq a.y b.y) h in
-        let two = and_parts ((a.net == b.net) && (a.layer == b.layer)) (int_eq a.x b.x) three.0 in
-        let one = and_parts (a.net == b.net) (a.layer == b.layer) two.0 in
-        ((Decides-eqb a.net b.net).0 one.0, (Decides-eqb a.layer b.layer).0 one.1, (Decides-int_eq a.x b.x).0 two.1, (Decides-int_eq a.y b.y).0 three.1)
-
-    back : ((a.net ≡ b.net) × (a.layer ≡ b.layer) × (a.x ≡ b.x) × (a.y ≡ b.y)) → same_key a b ≡ true
-    back (n, l, x, y) =
-        and_from ((a.net == b.net) && (a.layer == b.layer) && int_eq a.x b.x) (int_eq a.y b.y)
-        (and_from ((a.net == b.net) && (a.layer == b.layer)) (int_eq a.x b.x)
-        (and_from (a.net == b.net) (a.layer == b.layer) ((Decides-eqb a.net b.net).1 n) ((Decides-eqb a.layer b.layer).1 l)) ((Decides-int_eq a.x b.x).1 x))
-        ((Decides-int_eq a.y b.y).1 y)
-
-pub one_key : (a b : Key) → same_key a b ≡ true → a ≡ b
-one_key a b h = let e = (same_key_decides a b).0 h in λ k. record { net = e.0 k; layer = e.1 k; x = e.2 k; y = e.3 k }
-
-pub same_itself : (a : Key) → same_key a a ≡ true
-same_itself a = (same_key_decides a a).1 (refl, refl, refl, refl)
 
 -- ---- what the order says
 

@@ -5,4 +5,5 @@ pub mod Nodes
 pub mod Segments
 pub mod Layers
 pub mod Network
+pub mod Laws
 pub mod inside

@@ -14,7 +14,7 @@ use Rattle.grid_pieces.specs.Piece.{IsPiece, ArePieces, piece_order}
 use Rattle.grid_pieces.specs.inside.Blockages.{BlockAlike}
 use Rattle.grid_pieces.specs.inside.Cutting.{ArePiecesUpTo, AreApart}
 use Rattle.grid_pieces.specs.Laws.Orders.{then_equal, nat_equal, int_equal}
-use Rattle.grid_pieces.specs.Laws.Permuted.{apart_permuted}
+use Rattle.list_laws.specs.Laws.Permuted.{apart_permuted}
 use Rattle.grid_pieces.proofs.Lines.{piece_same, blocks_same}
 
 less_from : (o : Ordering) → is_gt o ≡ false → (o ≡ Equal → ⊥) → is_lt o ≡ true

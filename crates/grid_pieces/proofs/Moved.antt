@@ -8,7 +8,7 @@ use Rattle.std.proofs.lemmas.List.Sorted.{IsPermutation-sym, IsPermutation-keeps
 use Rattle.grid_pieces.specs.declared.metal.Metal.{Metal}
 use Rattle.grid_pieces.specs.declared.touch.Touching.{Touching}
 use Rattle.grid_pieces.specs.Touch.{StandsAt, IsTouch, Finds}
-use Rattle.grid_pieces.specs.Laws.Permuted.{Stood, stood, within_of, differ}
+use Rattle.list_laws.specs.Laws.Permuted.{Stood, stood, within_of, differ}
 
 -- where an element stands after two places were exchanged
 now_at : (l : List Metal) (a b i : ℕ) (m : Metal) → a < length l → b < length l → StandsAt l i m → (k : ℕ) × Stood a b i k × StandsAt (swap l a b) k m

@@ -4,4 +4,3 @@ pub mod Found
 pub mod Geometry
 pub mod Maximal
 pub mod Orders
-pub mod Permuted

@@ -16,7 +16,7 @@ use Rattle.grid_pieces.specs.declared.piece.Block.{Block}
 use Rattle.grid_pieces.specs.Limits.{PieceKeeps}
 use Rattle.grid_pieces.specs.Touch.{rect_order}
 use Rattle.grid_stacks.specs.inside.Standing.{AreMany, AreStanding}
-use Rattle.grid_pieces.specs.Laws.Permuted.{apart_permuted}
+use Rattle.list_laws.specs.Laws.Permuted.{apart_permuted}
 use Rattle.grid_stacks.proofs.Bridge.{crossing_keeps}
 use Rattle.grid_pieces.specs.Laws.Orders.{then_equal, nat_equal, int_equal}
 use Rattle.std.proofs.lemmas.List.{get_or_default, get_or_append_left}

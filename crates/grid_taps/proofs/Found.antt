@@ -1,15 +1,13 @@
 -- When an entry is at a column, and what a search finds.
-use Rattle.std.proofs.Common.{◌≡◌, ◌↔◌, IsTrue, Bool, true, false, ◌==◌, int_le, ℕ, zero, suc, ◌<◌, ◌≤ℤ◌, ℤ, List, [], ◌∷◌, ◌++◌, length, get_or, find, Option, Some, None, cond, refl, sym, ap, ◌∙◌, subst, eq-eqb, arith}
-use Rattle.std.specs.Option.{option_map, option_or}
-use Rattle.std.proofs.lemmas.List.Folds.{find-append}
+use Rattle.std.proofs.Common.{◌≡◌, ◌↔◌, IsTrue, Bool, true, false, ◌==◌, int_le, ℕ, zero, suc, ◌<◌, ◌≤ℤ◌, ℤ, List, [], ◌∷◌, length, get_or, find, Some, None, cond, refl, sym, subst, eq-eqb, arith}
 use Rattle.std.proofs.lemmas.Int.{ints}
-use Rattle.geom_rect.specs.declared.rect.Rect.{Rect}
 use Rattle.grid_pieces.specs.Laws.Found.{and_both, and_of, place_of_true}
 use Rattle.grid_pieces.specs.Laws.Amongst.{none_is_no_value, same_value}
 use Rattle.grid_taps.specs.declared.column.Column.{Column}
-use Rattle.grid_taps.specs.declared.index.Entry.{Entry}
+use Rattle.rect_index.specs.declared.entry.Entry.{Entry}
+use Rattle.rect_index.specs.Entry.{share, touches}
 use Rattle.grid_taps.specs.Naming.{At}
-use Rattle.grid_taps.specs.inside.Index.{share, meets, is_at, number_of, first_at}
+use Rattle.grid_taps.specs.inside.Index.{window_of, is_at}
 
 pub le_iff : (a b : ℤ) → IsTrue (int_le a b) ↔ (a ≤ℤ b)
 le_iff a b = (λ h. omega (arith, ints), λ h. sym (omega (arith, ints)))
@@ -21,16 +19,13 @@ share_iff low high from to = (
 )
 
 -- the entry is of the group, and its rectangle has a point of the column
-abbrev pub IsAt : ℕ → Column → Entry → Type 0
+abbrev pub IsAt : ℕ → Column → Entry ℕ → Type 0
 IsAt group column entry = (entry.group ≡ group) × ((entry.rect.x1 ≤ℤ column.x) × (column.x ≤ℤ entry.rect.x2))
     × ((entry.rect.y1 ≤ℤ column.upper) × (column.lower ≤ℤ entry.rect.y2))
 
-pub at_iff : (group : ℕ) (column : Column) (entry : Entry) → IsTrue (is_at group column entry) ↔ IsAt group column entry
+pub at_iff : (group : ℕ) (column : Column) (entry : Entry ℕ) → IsTrue (is_at group column entry) ↔ IsAt group column entry
 at_iff group column entry = (there, back)
   where
-    rect : Rect
-    rect = entry.rect
-
     xs : IsTrue (share column.x column.x entry.rect.x1 entry.rect.x2) ↔ ((entry.rect.x1 ≤ℤ column.x) × (column.x ≤ℤ entry.rect.x2))
     xs = share_iff column.x column.x entry.rect.x1 entry.rect.x2
 
@@ -39,13 +34,13 @@ at_iff group column entry = (there, back)
 
     there : IsTrue (is_at group column entry) → IsAt group column entry
     there h =
-        let both = and_both (entry.group == group) (meets column entry.rect) h in
+        let both = and_both (entry.group == group) (touches (window_of column) entry.rect) h in
         let met = and_both (share column.x column.x entry.rect.x1 entry.rect.x2) (share column.lower column.upper entry.rect.y1 entry.rect.y2) both.1 in
         (place_of_true entry.group group both.0, xs.0 met.0, ys.0 met.1)
 
     back : IsAt group column entry → IsTrue (is_at group column entry)
     back (same, in_x, in_y) =
-        and_of (entry.group == group) (meets column entry.rect) (eq-eqb entry.group group same)
+        and_of (entry.group == group) (touches (window_of column) entry.rect) (eq-eqb entry.group group same)
         (and_of (share column.x column.x entry.rect.x1 entry.rect.x2) (share column.lower column.upper entry.rect.y1 entry.rect.y2) (xs.1 in_x) (ys.1 in_y))
 
 -- ## what find gives
@@ -80,22 +75,3 @@ none_by p y ys false is e rest (suc k) d within = rest e k d (omega arith)
 pub found_none : {X : Type 0} (p : X → Bool) (xs : List X) → find p xs ≡ None → (k : ℕ) (d : X) → k < length xs → p (get_or xs k d) ≡ false
 found_none p [] e k d within = absurd (omega arith)
 found_none p (y ∷ ys) e k d within = none_by p y ys (p y) refl e (λ r. found_none p ys r) k d within
-
--- the first of two lists
-pub first_left : (group : ℕ) (column : Column) (left right : List Entry) (number : ℕ) → first_at group column left ≡ Some number
-    → first_at group column (left ++ right) ≡ Some number
-first_left group column left right number e =
-    ap (option_map number_of) (find-append (is_at group column) left right) ∙ by_found (find (is_at group column) left) e
-  where
-    by_found : (o : Option Entry) → option_map number_of o ≡ Some number → option_map number_of (option_or o (find (is_at group column) right)) ≡ Some number
-    by_found None e = absurd (none_is_no_value number e)
-    by_found (Some x) e = e
-
-pub first_right : (group : ℕ) (column : Column) (left right : List Entry) → first_at group column left ≡ None
-    → first_at group column (left ++ right) ≡ first_at group column right
-first_right group column left right e =
-    ap (option_map number_of) (find-append (is_at group column) left right) ∙ by_found (find (is_at group column) left) e
-  where
-    by_found : (o : Option Entry) → option_map number_of o ≡ None → option_map number_of (option_or o (find (is_at group column) right)) ≡ first_at group column right
-    by_found None e = refl
-    by_found (Some x) e = absurd (none_is_no_value (number_of x) (sym e))

@@ -1,4 +1,3 @@
-pub mod Missed
 pub mod Firsts
 pub mod Found
 pub mod Pieces

@@ -13,7 +13,7 @@ use Rattle.geom_rect.specs.Rect.{HasPoint}
 use Rattle.grid_pieces.specs.Line.{piece_rect}
 use Rattle.grid_pieces.specs.declared.grid.Grid.{Grid}
 use Rattle.grid_pieces.specs.declared.piece.Piece.{Piece}
-use Rattle.grid_taps.specs.declared.index.Entry.{Entry}
+use Rattle.rect_index.specs.declared.entry.Entry.{Entry}
 use Rattle.grid_taps.specs.declared.on_piece.Spot.{Spot}
 use Rattle.grid_network.specs.declared.pad.PadOn.{PadOn}
 use Rattle.grid_taps.specs.Naming.{At, layer_names}
@@ -25,7 +25,7 @@ use Rattle.grid_taps.proofs.Unique.{one_named, one_at}
 
 -- ## the index of pieces
 
-pub entries_more : (pieces : List Piece) (entries : List Entry) (i : ℕ) (p : Piece) → At pieces i p → ArePieceEntries (take i pieces) entries
+pub entries_more : (pieces : List Piece) (entries : List (Entry ℕ)) (i : ℕ) (p : Piece) → At pieces i p → ArePieceEntries (take i pieces) entries
     → ArePieceEntries (take (i + 1) pieces) (entries ++ piece_entry i p ∷ [])
 entries_more pieces entries i p at h = record {
   as_many = omega (arith, length_push entries (piece_entry i p), many, length-take (i + 1) pieces, at.0);
@@ -35,7 +35,7 @@ entries_more pieces entries i p at h = record {
     many : length entries ≡ i
     many = omega (arith, h.as_many, length-take i pieces, at.0)
 
-    by_place : (k : ℕ) (q : Piece) (e : Entry) → At (take (i + 1) pieces) k q → (k < i) ⊎ (i ≤ k) → get_or (entries ++ piece_entry i p ∷ []) k e ≡ piece_entry k q
+    by_place : (k : ℕ) (q : Piece) (e : Entry ℕ) → At (take (i + 1) pieces) k q → (k < i) ⊎ (i ≤ k) → get_or (entries ++ piece_entry i p ∷ []) k e ≡ piece_entry k q
     by_place k q e q_at (inl before) =
         let there : get_or (take i pieces) k q ≡ q = get_or-take i pieces k q before ∙ sym (get_or-take (i + 1) pieces k q (omega arith)) ∙ q_at.1 in
         let old : At (take i pieces) k q = (omega (arith, before, length-take i pieces, at.0), there) in
@@ -45,10 +45,10 @@ entries_more pieces entries i p at h = record {
         let one : p ≡ q = one_at pieces i k p q (sym same) at (omega (arith, same, at.0), sym (get_or-take (i + 1) pieces k q (omega arith)) ∙ q_at.1) in
         get_or_push entries (piece_entry i p) e k (omega (arith, same, many)) ∙ ap (λ (z : Piece). piece_entry i z) one ∙ ap (λ n. piece_entry n q) (sym same)
 
-pub entries_all : (pieces : List Piece) (entries index : List Entry) (i : ℕ) → length pieces ≤ i → index ≡ entries → ArePieceEntries (take i pieces) entries
+pub entries_all : (pieces : List Piece) (entries index : List (Entry ℕ)) (i : ℕ) → length pieces ≤ i → index ≡ entries → ArePieceEntries (take i pieces) entries
     → ArePieceEntries pieces index
 entries_all pieces entries index i le is h =
-    subst (λ (es : List Entry). ArePieceEntries pieces es) (sym is) (subst (λ (ps : List Piece). ArePieceEntries ps entries) (take_all i pieces le) h)
+    subst (λ (es : List (Entry ℕ)). ArePieceEntries pieces es) (sym is) (subst (λ (ps : List Piece). ArePieceEntries ps entries) (take_all i pieces le) h)
 
 -- ## a pad
 

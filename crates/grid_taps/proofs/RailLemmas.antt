@@ -12,11 +12,12 @@ use Rattle.grid_pieces.specs.declared.grid.Grid.{Grid}
 use Rattle.grid_pieces.specs.declared.piece.Piece.{Piece}
 use Rattle.grid_pieces.specs.Laws.Orders.{nat_equal, int_equal}
 use Rattle.grid_taps.specs.declared.column.Column.{Column}
-use Rattle.grid_taps.specs.declared.index.Entry.{Entry}
+use Rattle.rect_index.specs.declared.entry.Entry.{Entry}
+use Rattle.rect_index.specs.Entry.{item_of}
 use Rattle.grid_taps.specs.declared.rail.Rail.{Rail}
 use Rattle.grid_taps.specs.Naming.{At}
 use Rattle.grid_taps.specs.Rails.{IsRail, Crosses, IsNotAbove, IsLowestRail}
-use Rattle.grid_taps.specs.inside.Index.{is_at, number_of, first_at}
+use Rattle.grid_taps.specs.inside.Index.{is_at, first_at}
 use Rattle.grid_taps.specs.inside.Rails.{rail_order, rail_of, rail_entry, IsDrawnRail, AreRailEntries}
 use Rattle.grid_taps.proofs.Found.{at_iff, found_first, found_none}
 
@@ -104,7 +105,7 @@ crosses_of net column number p h =
     (there.0, ((there.1.0, there.1.1), (there.2.1, there.2.0)))
 
 -- the rail of a piece stands in the list, at a place where its entry is at the column
-place_of : (grid : Grid) (entries : List Entry) (are : AreRailEntries grid.pieces entries) (net : ℕ) (column : Column) (number : ℕ) (p : Piece)
+place_of : (grid : Grid) (entries : List (Entry ℕ)) (are : AreRailEntries grid.pieces entries) (net : ℕ) (column : Column) (number : ℕ) (p : Piece)
     → IsRail grid net number p → Crosses column p
     → (k : ℕ) × (k < length are.rails) × (get_or are.rails k (rail_of number p) ≡ rail_of number p)
     × IsTrue (is_at net column (rail_entry (rail_of number p)))
@@ -112,20 +113,20 @@ place_of grid entries are net column number p is crosses =
     let there = are.every number p is.is (is.shape, is.axis) in
     (there.0, there.1, there.2, at_of net column number p is.of_net crosses)
 
-entry_at : (entries : List Entry) (rails : List Rail) → entries ≡ map rail_entry rails → (k : ℕ) (r : Rail) (d : Entry) → k < length rails
+entry_at : (entries : List (Entry ℕ)) (rails : List Rail) → entries ≡ map rail_entry rails → (k : ℕ) (r : Rail) (d : Entry ℕ) → k < length rails
     → get_or rails k r ≡ r → get_or entries k d ≡ rail_entry r
 entry_at entries rails is k r d within same =
-    ap (λ (es : List Entry). get_or es k d) is ∙ get_or-map rail_entry rails k r d within ∙ ap rail_entry same
+    ap (λ (es : List (Entry ℕ)). get_or es k d) is ∙ get_or-map rail_entry rails k r d within ∙ ap rail_entry same
 
-as_many : (entries : List Entry) (rails : List Rail) → entries ≡ map rail_entry rails → length entries ≡ length rails
-as_many entries rails is = ap (λ (es : List Entry). length es) is ∙ length-map rails rail_entry
+as_many : (entries : List (Entry ℕ)) (rails : List Rail) → entries ≡ map rail_entry rails → length entries ≡ length rails
+as_many entries rails is = ap (λ (es : List (Entry ℕ)). length es) is ∙ length-map rails rail_entry
 
 -- where none is found, none crosses the column
-pub none_crosses : (grid : Grid) (entries : List Entry) → AreRailEntries grid.pieces entries → (net : ℕ) (column : Column)
+pub none_crosses : (grid : Grid) (entries : List (Entry ℕ)) → AreRailEntries grid.pieces entries → (net : ℕ) (column : Column)
     → find (is_at net column) entries ≡ None → (number : ℕ) (p : Piece) → IsRail grid net number p → Crosses column p → ⊥
 none_crosses grid entries are net column none number p is crosses =
     let place = place_of grid entries are net column number p is crosses in
-    let e : Entry = rail_entry (rail_of number p) in
+    let e : Entry ℕ = rail_entry (rail_of number p) in
     let at : get_or entries place.0 e ≡ e = entry_at entries are.rails are.are place.0 (rail_of number p) e place.1 place.2 in
     let many : length entries ≡ length are.rails = as_many entries are.rails are.are in
     let within : place.0 < length entries = omega (arith, many, place.1) in
@@ -136,9 +137,9 @@ not_behind_itself : (a b : Rail) → a ≡ b → NotBehind a b
 not_behind_itself a b same = subst (λ (z : Rail). NotBehind a z) same (inr (refl, inr (refl, omega arith)))
 
 -- a rail whose entry is at the column, where no earlier one is, is the lowest
-lowest_of : (grid : Grid) (entries : List Entry) (are : AreRailEntries grid.pieces entries) (net : ℕ) (column : Column) (i : ℕ) (r : Rail)
+lowest_of : (grid : Grid) (entries : List (Entry ℕ)) (are : AreRailEntries grid.pieces entries) (net : ℕ) (column : Column) (i : ℕ) (r : Rail)
     → i < length are.rails → get_or are.rails i r ≡ r → IsTrue (is_at net column (rail_entry r))
-    → ((j : ℕ) (d : Entry) → j < i → is_at net column (get_or entries j d) ≡ false)
+    → ((j : ℕ) (d : Entry ℕ) → j < i → is_at net column (get_or entries j d) ≡ false)
     → ((p : Piece) × At grid.pieces r.number p × IsDrawnRail p × (r ≡ rail_of r.number p)) → IsLowestRail grid net column r.number
 lowest_of grid entries are net column i r within here met before (p, at, drawn, is) = record {
   rail = p;
@@ -172,7 +173,7 @@ lowest_of grid entries are net column i r within here met before (p, at, drawn, 
     lowest : (place : ℕ) (other : Piece) → IsRail grid net place other → Crosses column other → IsNotAbove p r.number other place
     lowest place other other_is other_crosses =
         let found = place_of grid entries are net column place other other_is other_crosses in
-        let e : Entry = rail_entry (rail_of place other) in
+        let e : Entry ℕ = rail_entry (rail_of place other) in
         let at_e : get_or entries found.0 e ≡ e = entry_at entries are.rails are.are found.0 (rail_of place other) e found.1 found.2 in
         let not_before : (found.0 < i) → ⊥ =
         (λ less. absurd (false≢true (sym (before found.0 e less) ∙ ap (is_at net column) at_e ∙ found.3))) in
@@ -180,8 +181,8 @@ lowest_of grid entries are net column i r within here met before (p, at, drawn, 
         (by_place found.0 (rail_of place other) found.1 found.2 other_is.of_net (cases_lt i found.0) not_before)
 
 -- the rail that is found
-pub is_lowest : (grid : Grid) (entries : List Entry) → AreRailEntries grid.pieces entries → (net : ℕ) (column : Column) (e : Entry)
-    → find (is_at net column) entries ≡ Some e → IsLowestRail grid net column e.number
+pub is_lowest : (grid : Grid) (entries : List (Entry ℕ)) → AreRailEntries grid.pieces entries → (net : ℕ) (column : Column) (e : Entry ℕ)
+    → find (is_at net column) entries ≡ Some e → IsLowestRail grid net column e.item
 is_lowest grid entries are net column e some =
     let found = found_first (is_at net column) entries e some in
     let many : length entries ≡ length are.rails = as_many entries are.rails are.are in
@@ -189,18 +190,18 @@ is_lowest grid entries are net column e some =
     let r : Rail = get_or are.rails found.0 no_rail in
     let here : get_or are.rails found.0 r ≡ r = get_or_default are.rails found.0 r no_rail within in
     let same : e ≡ rail_entry r = sym found.1.1 ∙ entry_at entries are.rails are.are found.0 r e within here in
-    subst (λ (z : Entry). IsLowestRail grid net column z.number) (sym same)
-    (lowest_of grid entries are net column found.0 r within here (subst (λ (z : Entry). IsTrue (is_at net column z)) same found.2) found.3 (are.each found.0 no_rail within))
+    subst (λ (z : Entry ℕ). IsLowestRail grid net column z.item) (sym same)
+    (lowest_of grid entries are net column found.0 r within here (subst (λ (z : Entry ℕ). IsTrue (is_at net column z)) same found.2) found.3 (are.each found.0 no_rail within))
 
 -- either, by what is found
-pub lowest_or_none : (grid : Grid) (entries : List Entry) → AreRailEntries grid.pieces entries → (net : ℕ) (column : Column) (answer : Option ℕ)
+pub lowest_or_none : (grid : Grid) (entries : List (Entry ℕ)) → AreRailEntries grid.pieces entries → (net : ℕ) (column : Column) (answer : Option ℕ)
     → answer ≡ first_at net column entries
     → MatchOption answer ((number : ℕ) (p : Piece) → IsRail grid net number p → Crosses column p → ⊥) (IsLowestRail grid net column)
 lowest_or_none grid entries are net column answer is =
     subst (λ o. MatchOption o ((number : ℕ) (p : Piece) → IsRail grid net number p → Crosses column p → ⊥) (IsLowestRail grid net column)) (sym is)
     (by_found (find (is_at net column) entries) refl)
   where
-    by_found : (o : Option Entry) → find (is_at net column) entries ≡ o
-        → MatchOption (option_map number_of o) ((number : ℕ) (p : Piece) → IsRail grid net number p → Crosses column p → ⊥) (IsLowestRail grid net column)
+    by_found : (o : Option (Entry ℕ)) → find (is_at net column) entries ≡ o
+        → MatchOption (option_map item_of o) ((number : ℕ) (p : Piece) → IsRail grid net number p → Crosses column p → ⊥) (IsLowestRail grid net column)
     by_found None none = none_crosses grid entries are net column none
     by_found (Some e) some = is_lowest grid entries are net column e some

@@ -7,7 +7,7 @@ use Rattle.std.proofs.lemmas.List.{get_or_default}
 use Rattle.std.proofs.lemmas.List.Sorted.{IsPermutation-sym, Contains-permutation}
 use Rattle.std.proofs.lemmas.List.Elements.{All-push, All-contains, Contains-push, Contains-append_left, Contains-get_or}
 use Rattle.grid_pieces.specs.declared.piece.Piece.{Piece}
-use Rattle.grid_taps.specs.declared.index.Entry.{Entry}
+use Rattle.rect_index.specs.declared.entry.Entry.{Entry}
 use Rattle.grid_taps.specs.declared.rail.Rail.{Rail}
 use Rattle.grid_taps.specs.Naming.{At}
 use Rattle.grid_taps.specs.inside.Rails.{rail_order, rail_of, rail_entry, IsDrawnRail, AreRailsOf, AreRailEntries}
@@ -53,7 +53,7 @@ rails_kept pieces i p rails at none h = record {
 pub rails_all : (pieces : List Piece) (i : ℕ) (rails : List Rail) → length pieces ≤ i → AreRailsOf pieces i rails → AreRailsOf pieces (length pieces) rails
 rails_all pieces i rails le h = record { each = h.each; every = λ number p less at drawn. h.every number p (omega arith) at drawn }
 
-pub rails_indexed : (pieces : List Piece) (rails sorted : List Rail) (entries index : List Entry) → AreRailsOf pieces (length pieces) rails
+pub rails_indexed : (pieces : List Piece) (rails sorted : List Rail) (entries index : List (Entry ℕ)) → AreRailsOf pieces (length pieces) rails
     → IsPermutation rails sorted → AllPairs (λ (a b : Rail). is_gt (rail_order a b) ≡ false) sorted → entries ≡ map rail_entry sorted → index ≡ entries
     → AreRailEntries pieces index
 rails_indexed pieces rails sorted entries index h moved in_order are same = record {

@@ -2,9 +2,7 @@
 //! components of a design that draw a current.
 #![tactic(auto)]
 
-mod bounds;
 mod column;
-mod index;
 mod line;
 mod named;
 mod on_piece;
@@ -13,7 +11,6 @@ mod range;
 mod standing;
 mod supply;
 mod tapping;
-mod tree;
 
 pub use column::Column;
 pub use standing::pads;

@@ -8,8 +8,7 @@ ghost use Rattle.grid_taps.specs.Pads.{IsInUnits, AreOnPieces};
 ghost use Rattle.grid_taps.specs.inside.Steps.{piece_entry, ArePieceEntries};
 ghost use Rattle.grid_taps.specs.inside.Standing.{IsSpot, point, pad_on, ArePiecesAt, AreFound, AreOnWith, AreNetsOf};
 
-use crate::column::Column;
-use crate::index::{Entry, Index};
+use crate::column::{Column, window_of};
 use crate::named::place_of;
 use crate::supply::volts_at;
 use bias_file::{Bias, PadAt};
@@ -18,11 +17,12 @@ use grid_network::PadOn;
 use grid_pieces::{Grid, Piece};
 use lef_tech::Tech;
 use name_table::NameTable;
+use rect_index::{Entry, RectIndex};
 use std::alloc::{AllocError, Global};
 use via_arrays::PICOMETRES;
 
 // An index of the rectangles of pieces, by their nets.
-pub(crate) fn index_of(alloc: Global, pieces: &[Piece]) -> Result<Index, AllocError>
+pub(crate) fn index_of(alloc: Global, pieces: &[Piece]) -> Result<RectIndex<u32>, AllocError>
     requires few { length pieces.now < 2 ^ 32 }
     requires keep { All PieceKeeps pieces.now }
     ensures { IfOk result (λ index. ArePieceEntries pieces.now index) }
@@ -31,17 +31,17 @@ pub(crate) fn index_of(alloc: Global, pieces: &[Piece]) -> Result<Index, AllocEr
     for (number, piece) in pieces.iter().enumerate() {
         entries.push(piece_entry(number as u32, piece))?;
     }
-    Index::new(alloc, &entries)
+    RectIndex::new(alloc, &entries)
 }
 
-fn piece_entry(number: u32, piece: &Piece) -> Entry
+fn piece_entry(number: u32, piece: &Piece) -> Entry<u32>
     requires { PieceKeeps piece.now }
     ensures { result ≡ piece_entry number piece.now }
 {
     Entry {
         group: piece.net,
         rect: rect_of(piece),
-        number,
+        item: number,
     }
 }
 
@@ -105,14 +105,14 @@ fn spot_of(pad: &PadAt, units: u32) -> Option<Spot>
 fn pieces_at(
     alloc: Global,
     grid: &Grid,
-    index: &Index,
+    index: &RectIndex<u32>,
     net: u32,
     spot: Spot,
 ) -> Result<Vec<u32>, AllocError>
     requires { ArePieceEntries grid.now.pieces index.now }
     ensures { IfOk result (λ found. ArePiecesAt grid.now.pieces net spot found.items) }
 {
-    index.found(alloc, net, point(spot))
+    index.found(alloc, net, window_of(point(spot)))
 }
 
 // The column of one point.
@@ -141,7 +141,7 @@ fn is_layer(tech: &Tech, layer: u32, name: &[u8]) -> bool
 pub(crate) struct Nets<'a> {
     pub(crate) names: NameTable<'a>,
     pub(crate) volts: Vec<Option<i128>>,
-    pub(crate) index: Index,
+    pub(crate) index: RectIndex<u32>,
 }
 
 // The pad of a line on each piece on which it stands.

@@ -6,10 +6,10 @@ ghost use Rattle.grid_taps.specs.declared.rail.Rail.{Rail};
 ghost use Rattle.grid_taps.specs.Rails.{IsRail, Crosses, IsLowestRail};
 ghost use Rattle.grid_taps.specs.inside.Rails.{rail_order, rail_of, rail_entry, IsDrawnRail, AreRailsOf, AreRailEntries};
 
-use crate::column::Column;
-use crate::index::{Entry, Index};
+use crate::column::{Column, window_of};
 use geom_rect::{Axis, Rect, Shape};
 use grid_pieces::{Grid, Piece};
+use rect_index::{Entry, RectIndex};
 use std::alloc::{AllocError, Global};
 
 // The centre line of a rail, and its number among the pieces.
@@ -24,14 +24,14 @@ pub(crate) struct Rail {
 }
 
 // An index of the centre lines of rails, by their nets, the lowest first.
-pub(crate) fn rails_of(alloc: Global, grid: &Grid) -> Result<Index, AllocError>
+pub(crate) fn rails_of(alloc: Global, grid: &Grid) -> Result<RectIndex<u32>, AllocError>
     requires { length grid.now.pieces < 2 ^ 32 }
     ensures { IfOk result (λ index. AreRailEntries grid.now.pieces index) }
 {
     let mut rails = drawn_rails(alloc, grid.pieces.as_slice())?;
     sort(&mut rails);
     let entries = entries_of(alloc, &rails)?;
-    Index::new(alloc, &entries)
+    RectIndex::new(alloc, &entries)
 }
 
 fn drawn_rails(alloc: Global, pieces: &[Piece]) -> Result<Vec<Rail>, AllocError>
@@ -73,13 +73,13 @@ fn sort(rails: &mut [Rail])
     rails.sort_unstable_by_key(|rail| (rail.net, rail.centre, rail.layer, rail.number));
 }
 
-fn entries_of(alloc: Global, rails: &[Rail]) -> Result<Vec<Entry>, AllocError>
+fn entries_of(alloc: Global, rails: &[Rail]) -> Result<Vec<Entry<u32>>, AllocError>
     ensures { IfOk result (λ entries. entries.items ≡ map rail_entry rails.now) }
 {
     rails.iter().map(|rail| rail_entry(rail)).collect(alloc)
 }
 
-fn rail_entry(rail: &Rail) -> Entry
+fn rail_entry(rail: &Rail) -> Entry<u32>
     ensures { result ≡ rail_entry rail.now }
 {
     Entry {
@@ -90,16 +90,16 @@ fn rail_entry(rail: &Rail) -> Entry
             x2: rail.to,
             y2: rail.centre,
         },
-        number: rail.number,
+        item: rail.number,
     }
 }
 
 // The lowest rail of the net that crosses the column.
-pub(crate) fn lowest(grid: &Grid, rails: &Index, net: u32, column: Column) -> Option<u32>
+pub(crate) fn lowest(grid: &Grid, rails: &RectIndex<u32>, net: u32, column: Column) -> Option<u32>
     requires { AreRailEntries grid.now.pieces rails.now }
     ensures { MatchOption result
         ((number : ℕ) (rail : Piece) → IsRail grid.now net number rail → Crosses column rail → ⊥)
         (IsLowestRail grid.now net column) }
 {
-    rails.first(net, column)
+    rails.first(net, window_of(column))
 }

@@ -11,7 +11,6 @@ ghost use Rattle.grid_taps.specs.inside.Rails.{AreRailEntries};
 ghost use Rattle.grid_taps.specs.inside.Tapping.{AreTablesOf, AreAllTapped, IsTapRefused, AddsTaps, AmpsRange, HasNoSeat};
 
 use crate::column::Column;
-use crate::index::Index;
 use crate::line::without_cell;
 use crate::named::{place_of, table_of};
 use crate::rail::{lowest, rails_of};
@@ -24,6 +23,7 @@ use grid_network::{ExtractError, Tap};
 use grid_pieces::{DomainAt, Grid};
 use lef_cells::{Cells, MacroCell};
 use name_table::NameTable;
+use rect_index::RectIndex;
 use std::alloc::{AllocError, Global};
 use via_arrays::PICOMETRES;
 
@@ -60,7 +60,7 @@ pub fn taps(
 // instance lines and of cell lines.
 #[derive(Drop)]
 struct Tables<'a> {
-    rails: Index,
+    rails: RectIndex<u32>,
     regions: Vec<Option<Rect>>,
     macros: NameTable<'a>,
     instances: NameTable<'a>,

@@ -29,7 +29,7 @@ use Rattle.spice_grid.specs.declared.error.SpiceKind.TheVariants as spice
 use Rattle.spice_grid.specs.declared.named.Named.{Named}
 use Rattle.spice_grid.specs.Netlist.{ReadsNetlist, IsAtWord, NamedKeeps}
 use Rattle.answers.specs.declared.answer.Answer.{Answer}
-use Rattle.answers.specs.declared.answer.Answer.TheVariants.{Usage, Want, ReadFault, WriteFault, TooLong, Refused, NoGrid, Range, TooManySteps, PadConflict, FloatingCapacitor, Unsupplied, Built, Generated, Solved, Stepped, Certified, NotCertified}
+use Rattle.answers.specs.declared.answer.Answer.TheVariants.{Usage, Want, ReadFault, WriteFault, TooLong, Refused, NoGrid, Range, TooManySteps, PadConflict, FloatingCapacitor, Unsupplied, Built, SignedOff, Generated, Solved, Stepped, Certified, NotCertified}
 use Rattle.judging.specs.Texts.{HasNetwork, StandFor, GivesOne, IsVerdict, SolutionsLieBetween}
 use Rattle.judging.specs.Judging.{network_answer, netlist_answer, certificate_answer, RefusesNetlist, RefusesMerge, RefusesCertificate, Tests, Judges}
 use Rattle.judging.specs.Stage.{GivesNetwork, HasNoNetwork, IsToNetlist, IsToTexts}
@@ -93,6 +93,7 @@ answer_is_want Generated = inr (λ e. cc)
 answer_is_want (FloatingCapacitor node) = inr (λ e. cc)
 answer_is_want (TooManySteps number) = inr (λ e. cc)
 answer_is_want (Stepped nodes steps) = inr (λ e. cc)
+answer_is_want (SignedOff numbers) = inr (λ e. cc)
 answer_is_want (Solved nodes resistors sweeps) = inr (λ e. cc)
 answer_is_want (Certified nodes) = inr (λ e. cc)
 answer_is_want (NotCertified node side found) = inr (λ e. cc)
@@ -290,6 +291,7 @@ netlist_to_texts Generated x = x
 netlist_to_texts (FloatingCapacitor node) x = x
 netlist_to_texts (TooManySteps number) x = x
 netlist_to_texts (Stepped nodes steps) x = x
+netlist_to_texts (SignedOff numbers) x = x
 netlist_to_texts (Solved nodes resistors sweeps) x = x
 netlist_to_texts (Certified nodes) x = tt
 netlist_to_texts (NotCertified node side found) x = tt

@@ -5,7 +5,7 @@ use Rattle.short_merge.specs.declared.merged.Merged.{Merged}
 use Rattle.spice_grid.specs.declared.named.Named.{Named}
 use Rattle.spice_grid.specs.Netlist.{NamedKeeps}
 use Rattle.answers.specs.declared.answer.Answer.{Answer}
-use Rattle.answers.specs.declared.answer.Answer.TheVariants.{Usage, Want, ReadFault, WriteFault, TooLong, Refused, NoGrid, Range, TooManySteps, PadConflict, FloatingCapacitor, Unsupplied, Built, Generated, Solved, Stepped, Certified, NotCertified}
+use Rattle.answers.specs.declared.answer.Answer.TheVariants.{Usage, Want, ReadFault, WriteFault, TooLong, Refused, NoGrid, Range, TooManySteps, PadConflict, FloatingCapacitor, Unsupplied, Built, SignedOff, Generated, Solved, Stepped, Certified, NotCertified}
 use Rattle.judging.specs.Texts.{HasNetwork}
 use Rattle.judging.specs.Judging.{RefusesNetlist, RefusesMerge}
 
@@ -40,6 +40,7 @@ IsToNetlist Generated = ⊥
 IsToNetlist (FloatingCapacitor node) = ⊥
 IsToNetlist (TooManySteps number) = ⊥
 IsToNetlist (Stepped nodes steps) = ⊥
+IsToNetlist (SignedOff numbers) = ⊥
 IsToNetlist (Solved nodes resistors sweeps) = ⊥
 IsToNetlist (Certified nodes) = ⊥
 IsToNetlist (NotCertified node side found) = ⊥

@@ -1,11 +1,6 @@
 -- The cells of two libraries as one record.
-use Rattle.std.specs.Prelude.{ℕ, Bool, not, List, ◌++◌, map, filter}
-use Rattle.std.specs.List.{list_any}
-use Rattle.std.specs.Str.{bytes_eq}
-
--- The name is one of these.
-abbrev pub is_among : List (List ℕ) → List ℕ → Bool
-is_among names name = list_any (bytes_eq name) names
+use Rattle.std.specs.Prelude.{ℕ, not, List, ◌++◌, map, filter}
+use Rattle.list_laws.specs.Among.{is_among}
 
 -- The entries of which none of these has the name.
 abbrev pub without : {E : Type 0} → (E → List ℕ) → List E → List E → List E

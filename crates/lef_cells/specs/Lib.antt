@@ -7,4 +7,5 @@ pub mod Record
 pub mod Format
 pub mod Limits
 pub mod Join
+pub mod Laws
 pub mod inside

@@ -1,6 +1,7 @@
 //! The cells of two libraries as one record.
 ghost use Rattle.std.specs.Prelude.{◌≡◌, ◌↔◌, ℕ, List, map, not, Contains, IfOk, OnOk};
-ghost use Rattle.lef_cells.specs.Join.{is_among, without, joined};
+ghost use Rattle.list_laws.specs.Among.{is_among};
+ghost use Rattle.lef_cells.specs.Join.{without, joined};
 ghost use Rattle.lef_cells.specs.Limits.{CellsKeep};
 
 use crate::record::{Cells, MacroCell, Site};

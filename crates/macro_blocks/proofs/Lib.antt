@@ -5,4 +5,3 @@ pub mod Showing
 pub mod Taking
 pub mod Limits
 pub mod One
-pub mod Joining

@@ -2,3 +2,6 @@ mod Texts
 mod Records
 mod Stages
 mod Built
+mod WiredRecords
+mod WiredStages
+mod Wired

@@ -50,6 +50,15 @@ one_of_two P Q one_p one_q apart a b some_a some_b (inr x) (inr y) = one_q a b s
 abbrev cells_from : List Site → List MacroCell → Cells
 cells_from sites macros = record { sites = sites; macros = macros }
 
+-- The cells of two texts are one.
+pub same_cells : HasOneResult ReadsCells cells.Want → (lef other : List ℕ) (c d : Cells) → AreCellsOf lef other c → AreCellsOf lef other d → c ≡ d
+same_cells one lef other c d x y =
+    let first : x.first ≡ y.first = one_record ReadsCells cells.Want cells_kind refl one lef x.first y.first x.first_reads y.first_reads in
+    let second : x.second ≡ y.second = one_record ReadsCells cells.Want cells_kind refl one other x.second y.second x.second_reads y.second_reads in
+    let sites : c.sites ≡ d.sites = x.sites ∙ ap (λ (z : Cells). joined (λ (site : Site). site.name) z.sites x.second.sites) first ∙ ap (λ (z : Cells). joined (λ (site : Site). site.name) y.first.sites z.sites) second ∙ sym y.sites in
+    let macros : c.macros ≡ d.macros = x.macros ∙ ap (λ (z : Cells). joined (λ (cell : MacroCell). cell.name) z.macros x.second.macros) first ∙ ap (λ (z : Cells). joined (λ (cell : MacroCell). cell.name) y.first.macros z.macros) second ∙ sym y.macros in
+    ap (λ s. cells_from s c.macros) sites ∙ ap (cells_from d.sites) macros
+
 abbrev records_from : Tech → Cells → Placed → Script → Bias → Records
 records_from t c d s b = record { tech = t; cells = c; design = d; script = s; bias = b }
 
@@ -149,18 +158,10 @@ module _ (readers : AreReaders) (t : FiveTexts) where
   unread_or_read a r (inr (inr (inr (inr (inr (inr x)))))) are = bias_or_not a x (r.bias, are.bias)
 
   -- ---- one record
-  same_cells : (lef other : List ℕ) (c d : Cells) → AreCellsOf lef other c → AreCellsOf lef other d → c ≡ d
-  same_cells lef other c d x y =
-      let first : x.first ≡ y.first = one_record ReadsCells cells.Want cells_kind refl readers.cells lef x.first y.first x.first_reads y.first_reads in
-      let second : x.second ≡ y.second = one_record ReadsCells cells.Want cells_kind refl readers.cells other x.second y.second x.second_reads y.second_reads in
-      let sites : c.sites ≡ d.sites = x.sites ∙ ap (λ (z : Cells). joined (λ (site : Site). site.name) z.sites x.second.sites) first ∙ ap (λ (z : Cells). joined (λ (site : Site). site.name) y.first.sites z.sites) second ∙ sym y.sites in
-      let macros : c.macros ≡ d.macros = x.macros ∙ ap (λ (z : Cells). joined (λ (cell : MacroCell). cell.name) z.macros x.second.macros) first ∙ ap (λ (z : Cells). joined (λ (cell : MacroCell). cell.name) y.first.macros z.macros) second ∙ sym y.macros in
-      ap (λ s. cells_from s c.macros) sites ∙ ap (cells_from d.sites) macros
-
   pub same_records : (r s : Records) → AreRecords t r → AreRecords t s → r ≡ s
   same_records r s x y =
       let of_tech : r.tech ≡ s.tech = one_record ReadsTech tech.Want tech_kind refl readers.tech t.lef.text r.tech s.tech x.tech y.tech in
-      let of_cells : r.cells ≡ s.cells = same_cells t.lef.text t.cells.text r.cells s.cells x.cells y.cells in
+      let of_cells : r.cells ≡ s.cells = same_cells readers.cells t.lef.text t.cells.text r.cells s.cells x.cells y.cells in
       let of_design : r.design ≡ s.design = one_record ReadsDesign def.Want def_kind refl readers.design t.def.text r.design s.design x.design y.design in
       let of_script : r.script ≡ s.script = one_record ReadsScript script.Want script_kind refl readers.script t.pdn.text r.script s.script x.script y.script in
       let of_bias : r.bias ≡ s.bias = one_record ReadsBias bias.Want bias_kind refl readers.bias t.bias.text r.bias s.bias x.bias y.bias in

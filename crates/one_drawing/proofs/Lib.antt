@@ -1,5 +1,3 @@
-pub mod Listed
-pub mod Ordered
 pub mod Standing
 pub mod Planned
 pub mod Likened
@@ -9,6 +7,5 @@ pub mod Counted
 pub mod Sited
 pub mod Stacked
 pub mod Restacked
-pub mod Touched
 pub mod Allowed
 pub mod Refused

@@ -6,8 +6,8 @@ use Rattle.geom_rect.specs.declared.drawn.Drawn.{Drawn}
 use Rattle.grid_pieces.specs.declared.piece.Piece.{Piece}
 use Rattle.grid_pieces.specs.declared.piece.Block.{Block}
 use Rattle.grid_pieces.specs.Piece.{IsPiece, ArePieces, piece_order}
-use Rattle.one_drawing.proofs.Listed.{same_list}
-use Rattle.one_drawing.proofs.Ordered.{pieces_one_way}
+use Rattle.one_drawing.specs.Laws.Listed.{same_list}
+use Rattle.one_drawing.specs.Laws.Ordered.{pieces_one_way}
 
 pub one_pieces : (shapes : List Drawn) (blocks : List Block) (a b : List Piece) → ArePieces shapes blocks a → ArePieces shapes blocks b → a ≡ b
 one_pieces shapes blocks a b x y =

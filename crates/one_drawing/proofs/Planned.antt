@@ -18,7 +18,7 @@ use Rattle.grid_pieces.specs.declared.error.DrawError.{DrawError}
 use Rattle.grid_pieces.specs.declared.error.DrawError.TheVariants.{Want}
 use Rattle.grid_pieces.specs.declared.grid.DomainAt.{DomainAt}
 use Rattle.grid_pieces.specs.Laws.Amongst.{Among-map, Among-filter, none_is_no_value, same_value}
-use Rattle.grid_pieces.specs.Laws.Permuted.{apart_permuted}
+use Rattle.list_laws.specs.Laws.Permuted.{apart_permuted}
 use Rattle.grid_stacks.specs.declared.connect.Connect.{Connect}
 use Rattle.grid_plan.specs.declared.order.PlacedConnect.{PlacedConnect}
 use Rattle.grid_plan.specs.declared.record.Plan.{Plan}
@@ -26,8 +26,8 @@ use Rattle.grid_plan.specs.Names.{Names, names_of, AreNets, powers_of}
 use Rattle.grid_plan.specs.Resolved.{IsDomainAt, straps_of, ring_of, connect_of, ring_connect_of}
 use Rattle.grid_plan.specs.Planning.{Plans, IsPlanOf, IsPlanRefused, AreConnects, connects_in, stated_in, added_in}
 use Rattle.one_drawing.specs.Apart.{StandApart}
-use Rattle.one_drawing.proofs.Listed.{has_first, has_later, pairs_map, pairs_later, pairs_first, same_list}
-use Rattle.one_drawing.proofs.Ordered.{names_one_way, IsEarlier, earlier_one_way, earlier_from}
+use Rattle.one_drawing.specs.Laws.Listed.{has_first, has_later, pairs_map, pairs_later, pairs_first, same_list}
+use Rattle.one_drawing.specs.Laws.Ordered.{names_one_way, IsEarlier, earlier_one_way, earlier_from}
 
 -- ## connects
 

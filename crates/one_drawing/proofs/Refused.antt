@@ -35,7 +35,7 @@ use Rattle.one_drawing.proofs.Restacked.{MovesRefusals, moves_alike, moves_limit
 use Rattle.one_drawing.proofs.Shaped.{one_shapes, few_lines}
 use Rattle.one_drawing.proofs.Pieced.{one_pieces}
 use Rattle.one_drawing.proofs.Stacked.{OneStack, one_stacks}
-use Rattle.one_drawing.proofs.Touched.{one_first_touch}
+use Rattle.one_drawing.specs.Laws.Touched.{one_first_touch}
 
 is_want : (e : DrawError) → (e ≡ errors.Want) ⊎ (e ≢ errors.Want)
 is_want errors.Want = inl refl

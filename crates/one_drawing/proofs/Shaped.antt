@@ -28,8 +28,8 @@ use Rattle.grid_plan.specs.declared.record.Rails.{Rails}
 use Rattle.grid_plan.specs.declared.record.Straps.{Straps}
 use Rattle.grid_shapes.specs.Shapes.{most_lines, DrawStraps, DrawRails, DrawSides, IsRailRule, Draws, AreOfEach, AreShapes, StrapsAreMany, RailsAreMany, SidesAreMany, LinesAreMany}
 use Rattle.grid_shapes.specs.Site.{grid_of, rows_at, sides_at, strap_reaches, foreign}
-use Rattle.one_drawing.proofs.Listed.{has_cases, same_list, sorted_differ, no_longer}
-use Rattle.one_drawing.proofs.Ordered.{lines_one_way, runs_one_way}
+use Rattle.one_drawing.specs.Laws.Listed.{has_cases, same_list, sorted_differ, no_longer}
+use Rattle.one_drawing.specs.Laws.Ordered.{lines_one_way, runs_one_way}
 
 -- ## cores
 

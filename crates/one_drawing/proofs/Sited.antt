@@ -12,8 +12,8 @@ use Rattle.grid_stacks.specs.declared.connect.Connect.{Connect}
 use Rattle.grid_stacks.specs.declared.connect.Site.{Site}
 use Rattle.grid_stacks.specs.Crossing.{At, IsUsed, Joins, IsObstructed, Stands, site_of, crossing_of, limit_of}
 use Rattle.grid_stacks.specs.Stacking.{AreSites, AreAllowed, MoreThan, most_stacks, site_order}
-use Rattle.one_drawing.proofs.Listed.{has_first, has_later, has_cases, same_list, no_longer, pairs_map}
-use Rattle.one_drawing.proofs.Ordered.{sites_one_way}
+use Rattle.one_drawing.specs.Laws.Listed.{has_first, has_later, has_cases, same_list, no_longer, pairs_map}
+use Rattle.one_drawing.specs.Laws.Ordered.{sites_one_way}
 
 -- ## the connect that is used
 

@@ -18,8 +18,8 @@ use Rattle.grid_pieces.specs.declared.piece.StackAt.{StackAt}
 use Rattle.grid_stacks.specs.declared.connect.Site.{Site}
 use Rattle.grid_stacks.specs.Crossing.{At}
 use Rattle.grid_stacks.specs.Stacking.{AreSites, AreAllowed, AreStacks, AreStacksAt, AreRefused, IsStackAt, IsFirstRefused, IsFirstWithout, HasSheet, MoreThan, most_pieces, most_stacks, site_order}
-use Rattle.one_drawing.proofs.Listed.{same_list}
-use Rattle.one_drawing.proofs.Ordered.{sites_one_way}
+use Rattle.one_drawing.specs.Laws.Listed.{same_list}
+use Rattle.one_drawing.specs.Laws.Ordered.{sites_one_way}
 
 -- What is known of a stack at one crossing: there is one, or one reason why there is none.
 pub record OneStack : Type 0 where

@@ -26,7 +26,8 @@ use Rattle.grid_taps.specs.declared.column.Column.{Column}
 use Rattle.grid_taps.specs.Pads.{IsPadOn, AreOnPieces, ArePads}
 use Rattle.grid_taps.specs.Rails.{IsNotAbove, IsLowestRail}
 use Rattle.grid_taps.specs.Taps.{IsLine, HasNoLine, IsRange, column_of, IsMacroOf, regions_of, IsOwner, IsPlaced, tap_pair, AreTapsOf, AreTapsFor, AreTaps}
-use Rattle.one_network.proofs.Lists.{same_lists, one_at, one_named, in_order_one}
+use Rattle.grid_network.specs.Laws.Unique.{same_lists}
+use Rattle.one_network.proofs.Lists.{one_at, one_named, in_order_one}
 
 -- ## pads
 

@@ -2,6 +2,7 @@
 -- that stand twice or are not known, options that are missing.
 use Rattle.std.specs.Prelude.{◌≡◌, ◌⊎◌, ◌+◌, ◌-◌, ◌<◌, ℕ, Bool, true, false, not, ◌&&◌, ◌||◌, List, [], ◌∷◌, ◌++◌, length, Option, None, Some, if◌then◌else◌}
 use Rattle.std.specs.Str.{bytes_eq}
+use Rattle.list_laws.specs.Among.{is_among}
 use Rattle.number_place.specs.declared.place.Refused.{Refused}
 use Rattle.number_place.specs.declared.place.Refused.TheVariants as refusals
 use Rattle.pdn_script.specs.declared.error.ScriptKind.{ScriptKind}
@@ -9,7 +10,6 @@ use Rattle.pdn_script.specs.declared.error.ScriptKind.TheVariants as kinds
 use Rattle.pdn_script.specs.declared.known.Known.{Known}
 use Rattle.pdn_script.specs.Given.{option_of, waiting, value, stands, value_at, macro_at}
 use Rattle.pdn_script.specs.Known.{or_empty, domain_name, is_none, known_of}
-use Rattle.pdn_script.specs.Names.{is_among}
 use Rattle.pdn_script.specs.Sort.{is_end}
 use Rattle.reading.specs.declared.refusal.Found.{Found}
 use Rattle.reading.specs.Word.{Token, last_of}

@@ -1,6 +1,7 @@
 //! Names that stand.
 ghost use Rattle.std.specs.Prelude.{◌≡◌, [], IfOk, OnOk};
-ghost use Rattle.pdn_script.specs.Names.{is_among, with_name};
+ghost use Rattle.list_laws.specs.Among.{is_among};
+ghost use Rattle.pdn_script.specs.Names.{with_name};
 
 use name_table::NameTable;
 use std::alloc::{AllocError, Global};

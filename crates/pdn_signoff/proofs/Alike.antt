@@ -5,7 +5,7 @@ use Rattle.outside.specs.Counts.{FaultCounts, Rose}
 use Rattle.outside.specs.Files.{Holdings, bytes_in}
 use Rattle.outside.specs.Whole.{longest_text}
 use Rattle.answers.specs.declared.answer.Answer.{Answer}
-use Rattle.answers.specs.declared.answer.Answer.TheVariants.{Usage, Want, ReadFault, WriteFault, TooLong, Refused, NoGrid, Range, TooManySteps, PadConflict, FloatingCapacitor, Unsupplied, Built, Generated, Solved, Stepped, Certified, NotCertified}
+use Rattle.answers.specs.declared.answer.Answer.TheVariants.{Usage, Want, ReadFault, WriteFault, TooLong, Refused, NoGrid, Range, TooManySteps, PadConflict, FloatingCapacitor, Unsupplied, Built, SignedOff, Generated, Solved, Stepped, Certified, NotCertified}
 use Rattle.judging.specs.Texts.{HasNetwork}
 use Rattle.short_merge.specs.declared.merged.Merged.{Merged}
 use Rattle.solving.specs.Refusal.{IsUnsigned}
@@ -36,6 +36,7 @@ alike_from Generated b e = e
 alike_from (FloatingCapacitor node) b e = e
 alike_from (TooManySteps number) b e = e
 alike_from (Stepped nodes steps) b e = e
+alike_from (SignedOff numbers) b e = e
 alike_from (Solved nodes resistors sweeps) b e = (sweeps, sym e)
 alike_from (Certified nodes) b e = e
 alike_from (NotCertified node side found) b e = e
@@ -153,6 +154,7 @@ module _ (laws : AreSolvingLaws) (before after : FilesThen) (held : Holdings) (n
   stage_of solver solver' (FloatingCapacitor node) some why = absurd why
   stage_of solver solver' (TooManySteps number) some why = absurd why
   stage_of solver solver' (Stepped nodes steps) some why = absurd why
+  stage_of solver solver' (SignedOff numbers) some why = absurd why
   stage_of solver solver' (Solved nodes resistors sweeps) some (signed, file, none, numbers, asked, holds) =
       let e : file.text ≡ text = of_held (λ h. file.text ≡ bytes_in h n) before.known held known file.text_is in
       inr (inr (

@@ -8,7 +8,7 @@ use Rattle.outside.specs.Whole.{longest_text}
 use Rattle.outside.specs.declared.whole.ReadError.{ReadError}
 use Rattle.outside.specs.declared.whole.ReadError.TheVariants as reading
 use Rattle.answers.specs.declared.answer.Answer.{Answer}
-use Rattle.answers.specs.declared.answer.Answer.TheVariants.{Usage, Want, ReadFault, WriteFault, TooLong, Refused, NoGrid, Range, TooManySteps, PadConflict, FloatingCapacitor, Unsupplied, Built, Generated, Solved, Stepped, Certified, NotCertified}
+use Rattle.answers.specs.declared.answer.Answer.TheVariants.{Usage, Want, ReadFault, WriteFault, TooLong, Refused, NoGrid, Range, TooManySteps, PadConflict, FloatingCapacitor, Unsupplied, Built, SignedOff, Generated, Solved, Stepped, Certified, NotCertified}
 use Rattle.answers.specs.declared.built.Built.{Built as Numbers}
 use Rattle.answers.specs.Answer.{status_of, built_status}
 use Rattle.building.specs.declared.outputs.Outputs.{Outputs}
@@ -103,6 +103,7 @@ module _ (solver solver' : SolverThen) (before after : FilesThen) (f : BuildFile
   texts_refused kept calm t are (FloatingCapacitor node) sort why = sort
   texts_refused kept calm t are (TooManySteps number) sort why = sort
   texts_refused kept calm t are (Stepped nodes steps) sort why = sort
+  texts_refused kept calm t are (SignedOff numbers) sort why = sort
   texts_refused kept calm t are (Solved nodes resistors sweeps) sort why = sort
   texts_refused kept calm t are (Certified nodes) sort why = sort
   texts_refused kept calm t are (NotCertified node side found) sort why = sort
@@ -133,6 +134,7 @@ module _ (solver solver' : SolverThen) (before after : FilesThen) (f : BuildFile
   want_built (FloatingCapacitor node) why = absurd why
   want_built (TooManySteps number) why = absurd why
   want_built (Stepped nodes steps) why = absurd why
+  want_built (SignedOff numbers) why = absurd why
   want_built (Solved nodes resistors sweeps) why = absurd why
   want_built (Certified nodes) why = absurd why
   want_built (NotCertified node side found) why = absurd why
@@ -175,6 +177,7 @@ module _ (solver solver' : SolverThen) (before after : FilesThen) (f : BuildFile
   no_usage_built (FloatingCapacitor node) why e = absurd why
   no_usage_built (TooManySteps number) why e = absurd why
   no_usage_built (Stepped nodes steps) why e = absurd why
+  no_usage_built (SignedOff numbers) why e = absurd why
   no_usage_built (Solved nodes resistors sweeps) why e = absurd why
   no_usage_built (Certified nodes) why e = absurd why
   no_usage_built (NotCertified node side found) why e = absurd why
@@ -195,6 +198,7 @@ module _ (solver solver' : SolverThen) (before after : FilesThen) (f : BuildFile
   none_failed_built (FloatingCapacitor node) why fault want = absurd why
   none_failed_built (TooManySteps number) why fault want = absurd why
   none_failed_built (Stepped nodes steps) why fault want = absurd why
+  none_failed_built (SignedOff numbers) why fault want = absurd why
   none_failed_built (Solved nodes resistors sweeps) why fault want = absurd why
   none_failed_built (Certified nodes) why fault want = absurd why
   none_failed_built (NotCertified node side found) why fault want = absurd why
@@ -223,6 +227,7 @@ module _ (solver solver' : SolverThen) (before after : FilesThen) (f : BuildFile
   built_so (FloatingCapacitor node) why e = absurd why
   built_so (TooManySteps number) why e = absurd why
   built_so (Stepped nodes steps) why e = absurd why
+  built_so (SignedOff numbers) why e = absurd why
   built_so (Solved nodes resistors sweeps) why e = absurd why
   built_so (Certified nodes) why e = absurd why
   built_so (NotCertified node side found) why e = absurd why

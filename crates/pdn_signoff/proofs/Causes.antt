@@ -4,7 +4,7 @@ use Rattle.outside.specs.Counts.{Rose}
 use Rattle.outside.specs.Files.{Holdings, bytes_in}
 use Rattle.outside.specs.Whole.{longest_text}
 use Rattle.answers.specs.declared.answer.Answer.{Answer}
-use Rattle.answers.specs.declared.answer.Answer.TheVariants.{Usage, Want, ReadFault, WriteFault, TooLong, Refused, NoGrid, Range, TooManySteps, PadConflict, FloatingCapacitor, Unsupplied, Built, Generated, Solved, Stepped, Certified, NotCertified}
+use Rattle.answers.specs.declared.answer.Answer.TheVariants.{Usage, Want, ReadFault, WriteFault, TooLong, Refused, NoGrid, Range, TooManySteps, PadConflict, FloatingCapacitor, Unsupplied, Built, SignedOff, Generated, Solved, Stepped, Certified, NotCertified}
 use Rattle.answers.specs.Answer.{status_of}
 use Rattle.bound_check.specs.Failing.{first_failing}
 use Rattle.certificate_file.specs.declared.lists.Lists.{Lists}
@@ -15,7 +15,7 @@ use Rattle.judging.specs.Judging.{Judges}
 use Rattle.short_merge.specs.declared.merged.Merged.{Merged}
 use Rattle.spice_grid.specs.declared.named.Named.{Named}
 use Rattle.command_words.specs.declared.command.Command.{Command}
-use Rattle.command_words.specs.declared.command.Command.TheVariants.{Build, Check, Solve, Generate, Step}
+use Rattle.command_words.specs.declared.command.Command.TheVariants.{Build, Check, Solve, Generate, Step, Signoff}
 use Rattle.command_words.specs.Words.{IsCommand}
 use Rattle.pdn_signoff.specs.declared.design_files.DesignFiles.{DesignFiles}
 use Rattle.pdn_signoff.specs.Words.{IsCheck, IsGenerate, WriteNothing, IsUsage}
@@ -24,6 +24,7 @@ use Rattle.pdn_signoff.specs.Solve.{SolverThen, IsKept, Solves}
 use Rattle.pdn_signoff.specs.Command.{SinkThen, IsCause, Ends, IsCheckOf, HasCertificate}
 use Rattle.pdn_signoff.proofs.Building.{no_usage_built, none_failed_built}
 use Rattle.pdn_signoff.proofs.Generating.{no_usage_made, none_failed_made}
+use Rattle.pdn_signoff.proofs.SignoffAnswers.{AreToWiring, no_usage_signed, none_failed_signed}
 use Rattle.pdn_signoff.proofs.StepAnswers.{HaveSort, no_usage_stepped, none_failed_stepped}
 
 -- A run came to an answer that has its cause, and ended with it.
@@ -45,7 +46,8 @@ other_cause words solver solver' before after answer nothing (inr (inl (n, c, is
 other_cause words solver solver' before after answer nothing (inr (inr (inl (n, c, r, is, why)))) = absurd (nothing.0 n c r is)
 other_cause words solver solver' before after answer nothing (inr (inr (inr (inl (number, side, files, is, why))))) = absurd (nothing.1 number side files is)
 other_cause words solver solver' before after answer nothing (inr (inr (inr (inr (inl (files, is, why)))))) = absurd (nothing.2 files is)
-other_cause words solver solver' before after answer nothing (inr (inr (inr (inr (inr (files, is, why)))))) = absurd (nothing.3 files is)
+other_cause words solver solver' before after answer nothing (inr (inr (inr (inr (inr (inl (files, is, why))))))) = absurd (nothing.3 files is)
+other_cause words solver solver' before after answer nothing (inr (inr (inr (inr (inr (inr (files, is, why))))))) = absurd (nothing.4 files is)
 
 pub ran_other : (words : List (List ℕ)) (solver solver' : SolverThen) (before after : FilesThen) (result : ℕ) (out out' : SinkThen) → WriteNothing words → Ran words solver solver' before after result out out' → RanOther words before after result out out'
 ran_other words solver solver' before after result out out' nothing (answer, cause, ends) = (answer, other_cause words solver solver' before after answer nothing cause, ends)
@@ -59,7 +61,8 @@ kept words solver solver' before after result out out' (answer, cause, ends) not
       | inr (inr (inl solve)) ↦ absurd (nothing.0 solve.0 solve.1 solve.2 solve.3)
       | inr (inr (inr (inl made))) ↦ absurd (nothing.1 made.0 made.1 made.2 made.3)
       | inr (inr (inr (inr (inl built)))) ↦ absurd (nothing.2 built.0 built.1)
-      | inr (inr (inr (inr (inr steps)))) ↦ absurd (nothing.3 steps.0 steps.1)
+      | inr (inr (inr (inr (inr (inl steps))))) ↦ absurd (nothing.3 steps.0 steps.1)
+      | inr (inr (inr (inr (inr (inr signed))))) ↦ absurd (nothing.4 signed.0 signed.1)
     ]
 
 -- The status of an answer, or that of a line that was not written.
@@ -93,6 +96,7 @@ no_usage before after netlist certificate Generated why e = why
 no_usage before after netlist certificate (FloatingCapacitor node) why e = why
 no_usage before after netlist certificate (TooManySteps number) why e = why
 no_usage before after netlist certificate (Stepped nodes steps) why e = why
+no_usage before after netlist certificate (SignedOff numbers) why e = why
 no_usage before after netlist certificate (Solved nodes resistors sweeps) why e = why
 no_usage before after netlist certificate (Certified nodes) why e = absurd (omega arith)
 no_usage before after netlist certificate (NotCertified node side found) why e = absurd (omega arith)
@@ -114,13 +118,14 @@ no_usage_solved solver solver' before after n c r Generated why e = why
 no_usage_solved solver solver' before after n c r (FloatingCapacitor node) why e = why
 no_usage_solved solver solver' before after n c r (TooManySteps number) why e = why
 no_usage_solved solver solver' before after n c r (Stepped nodes steps) why e = why
+no_usage_solved solver solver' before after n c r (SignedOff numbers) why e = why
 no_usage_solved solver solver' before after n c r (Solved nodes resistors sweeps) why e = absurd (omega arith)
 no_usage_solved solver solver' before after n c r (Certified nodes) why e = why
 no_usage_solved solver solver' before after n c r (NotCertified node side found) why e = why
 
 -- The status 2 has its cause.
-pub usage : HaveSort → (words : List (List ℕ)) (solver solver' : SolverThen) (before after : FilesThen) (result : ℕ) (out out' : SinkThen) → Ran words solver solver' before after result out out' → result ≡ 2 → IsUsage words
-usage sort words solver solver' before after result out out' (answer, cause, ends) is =
+pub usage : HaveSort → AreToWiring → (words : List (List ℕ)) (solver solver' : SolverThen) (before after : FilesThen) (result : ℕ) (out out' : SinkThen) → Ran words solver solver' before after result out out' → result ≡ 2 → IsUsage words
+usage sort to_wiring words solver solver' before after result out out' (answer, cause, ends) is =
     elim cause [
       | inl free ↦ elim free.1 [
         | inl want ↦ absurd (other_end 2 result out out' answer ends is (λ e. let ten : status_of answer ≡ 10 = ap status_of want in absurd (omega arith)) (omega arith))
@@ -130,7 +135,8 @@ usage sort words solver solver' before after result out out' (answer, cause, end
       | inr (inr (inl solve)) ↦ absurd (other_end 2 result out out' answer ends is (no_usage_solved solver solver' before after solve.0 solve.1 solve.2 answer solve.4) (omega arith))
       | inr (inr (inr (inl made))) ↦ absurd (other_end 2 result out out' answer ends is (no_usage_made before after made.0 made.1 made.2 answer made.4) (omega arith))
       | inr (inr (inr (inr (inl built)))) ↦ absurd (other_end 2 result out out' answer ends is (no_usage_built solver solver' before after built.0 answer built.2) (omega arith))
-      | inr (inr (inr (inr (inr steps)))) ↦ absurd (other_end 2 result out out' answer ends is (no_usage_stepped sort solver solver' before after steps.0 answer steps.2) (omega arith))
+      | inr (inr (inr (inr (inr (inl steps))))) ↦ absurd (other_end 2 result out out' answer ends is (no_usage_stepped sort solver solver' before after steps.0 answer steps.2) (omega arith))
+      | inr (inr (inr (inr (inr (inr signed))))) ↦ absurd (other_end 2 result out out' answer ends is (no_usage_signed to_wiring solver solver' before after signed.0 answer signed.2) (omega arith))
     ]
 
 -- Words of no command end with 2, or with the status of a line that was not written, or with that of want of memory.
@@ -145,7 +151,8 @@ refused words solver solver' before after result out out' (answer, cause, ends) 
       | inr (inr (inl solve)) ↦ absurd (unformed.1 solve.0 solve.1 solve.2 solve.3)
       | inr (inr (inr (inl made))) ↦ absurd (unformed.2 made.0 made.1 made.2 made.3)
       | inr (inr (inr (inr (inl built)))) ↦ absurd (unformed.3 built.0 built.1)
-      | inr (inr (inr (inr (inr steps)))) ↦ absurd (unformed.4 steps.0 steps.1)
+      | inr (inr (inr (inr (inr (inl steps))))) ↦ absurd (unformed.4 steps.0 steps.1)
+      | inr (inr (inr (inr (inr (inr signed))))) ↦ absurd (unformed.5 signed.0 signed.1)
     ]
 
 -- No call on the files failed, where the answer is neither that of a file that could not be read nor that of want of memory.
@@ -165,6 +172,7 @@ none_failed before after n c Generated why read want = absurd why
 none_failed before after n c (FloatingCapacitor node) why read want = absurd why
 none_failed before after n c (TooManySteps number) why read want = absurd why
 none_failed before after n c (Stepped nodes steps) why read want = absurd why
+none_failed before after n c (SignedOff numbers) why read want = absurd why
 none_failed before after n c (Solved nodes resistors sweeps) why read want = absurd why
 none_failed before after n c (Certified nodes) why read want = why.0
 none_failed before after n c (NotCertified node side found) why read want = why.0
@@ -185,6 +193,7 @@ none_failed_solved solver solver' before after n c r Generated why read want = a
 none_failed_solved solver solver' before after n c r (FloatingCapacitor node) why read want = absurd why
 none_failed_solved solver solver' before after n c r (TooManySteps number) why read want = absurd why
 none_failed_solved solver solver' before after n c r (Stepped nodes steps) why read want = absurd why
+none_failed_solved solver solver' before after n c r (SignedOff numbers) why read want = absurd why
 none_failed_solved solver solver' before after n c r (Solved nodes resistors sweeps) why read want = why.2
 none_failed_solved solver solver' before after n c r (Certified nodes) why read want = absurd why
 none_failed_solved solver solver' before after n c r (NotCertified node side found) why read want = absurd why
@@ -203,7 +212,8 @@ calm sort words solver solver' before after result out out' (answer, cause, ends
           | inr (inr (inl solve)) ↦ none_failed_solved solver solver' before after solve.0 solve.1 solve.2 answer solve.4 (λ e. read (written.0 ∙ e)) (λ e. want (written.0 ∙ e))
           | inr (inr (inr (inl made))) ↦ none_failed_made before after made.0 made.1 made.2 answer made.4 (λ e. read (written.0 ∙ e)) (λ e. want (written.0 ∙ e))
           | inr (inr (inr (inr (inl built)))) ↦ none_failed_built solver solver' before after built.0 answer built.2 (λ e. read (written.0 ∙ e)) (λ e. want (written.0 ∙ e))
-          | inr (inr (inr (inr (inr steps)))) ↦ none_failed_stepped sort solver solver' before after steps.0 answer steps.2 (λ e. read (written.0 ∙ e)) (λ e. want (written.0 ∙ e))
+          | inr (inr (inr (inr (inr (inr signed))))) ↦ none_failed_signed solver solver' before after signed.0 answer signed.2 (λ e. read (written.0 ∙ e)) (λ e. want (written.0 ∙ e))
+          | inr (inr (inr (inr (inr (inl steps))))) ↦ none_failed_stepped sort solver solver' before after steps.0 answer steps.2 (λ e. read (written.0 ∙ e)) (λ e. want (written.0 ∙ e))
         ],
         written.2,
       )
@@ -230,6 +240,7 @@ check_writes_nothing laws words n c is = (
   λ number side files is'. let e = laws.one_command words (Check n c) (Generate number side files.lef files.cells files.def files.pdn files.bias) is is' in cc,
   λ f is'. let e = laws.one_command words (Check n c) (Build f.lef f.cells f.def f.pdn f.bias f.out_def f.netlist f.certificate f.report) is is' in cc,
   λ f is'. let e = laws.one_command words (Check n c) (Step f.netlist f.waves f.time f.steps f.certificate f.report) is is' in cc,
+  λ f is'. let e = laws.one_command words (Check n c) (Signoff f.lef f.cells f.def f.wires f.bias f.netlist f.certificate f.report) is is' in cc,
 )
 
 -- The words of `generate` name one number, one side and five files alone.
@@ -289,6 +300,7 @@ zero_over words before after n c Generated is why e = absurd why
 zero_over words before after n c (FloatingCapacitor node) is why e = absurd why
 zero_over words before after n c (TooManySteps number) is why e = absurd why
 zero_over words before after n c (Stepped nodes steps) is why e = absurd why
+zero_over words before after n c (SignedOff numbers) is why e = absurd why
 zero_over words before after n c (Solved nodes resistors sweeps) is why e = absurd why
 zero_over words before after n c (Certified nodes) is why e = record { n = n; c = c; is = is; nodes = nodes; judged = why }
 zero_over words before after n c (NotCertified node side found) is why e = absurd (omega arith)
@@ -403,6 +415,7 @@ module _ (laws : AreLaws) (none : NoFailing) (words : List (List ℕ)) (before a
   judged_over n c (FloatingCapacitor node) is why = absurd why
   judged_over n c (TooManySteps number) is why = absurd why
   judged_over n c (Stepped nodes steps) is why = absurd why
+  judged_over n c (SignedOff numbers) is why = absurd why
   judged_over n c (Solved nodes resistors sweeps) is why = absurd why
   judged_over n c (Certified nodes) is why = judged_texts n c (Certified nodes) is (λ e. cc) why
   judged_over n c (NotCertified node side found) is why = judged_texts n c (NotCertified node side found) is (λ e. cc) why

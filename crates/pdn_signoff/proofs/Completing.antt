@@ -5,14 +5,14 @@ use Rattle.outside.specs.Files.{Holdings, bytes_in}
 use Rattle.outside.specs.Known.{WhereKnown}
 use Rattle.outside.specs.Whole.{longest_text}
 use Rattle.answers.specs.declared.answer.Answer.{Answer}
-use Rattle.answers.specs.declared.answer.Answer.TheVariants.{Usage, Want, ReadFault, WriteFault, TooLong, Refused, NoGrid, Range, TooManySteps, PadConflict, FloatingCapacitor, Unsupplied, Built, Generated, Solved, Stepped, Certified, NotCertified}
+use Rattle.answers.specs.declared.answer.Answer.TheVariants.{Usage, Want, ReadFault, WriteFault, TooLong, Refused, NoGrid, Range, TooManySteps, PadConflict, FloatingCapacitor, Unsupplied, Built, SignedOff, Generated, Solved, Stepped, Certified, NotCertified}
 use Rattle.answers.specs.Answer.{status_of, built_status}
 use Rattle.building.specs.declared.outputs.Outputs.{Outputs}
 use Rattle.building.specs.Inputs.{FileText, FiveTexts}
 use Rattle.building.specs.Refusal.{IsUnbuilt}
 use Rattle.certificate_file.specs.declared.lists.Lists.{Lists}
 use Rattle.command_words.specs.declared.command.Command.{Command}
-use Rattle.command_words.specs.declared.command.Command.TheVariants.{Build, Check, Solve, Generate, Step}
+use Rattle.command_words.specs.declared.command.Command.TheVariants.{Build, Check, Solve, Generate, Step, Signoff}
 use Rattle.grid_net.specs.Certificate.{IsCertificate}
 use Rattle.input_files.specs.Inputs.{name_at}
 use Rattle.judging.specs.Texts.{StandFor}
@@ -36,6 +36,7 @@ files_of f (Solve n c r) = f
 files_of f (Check n c) = f
 files_of f (Generate m s a b c d e) = f
 files_of f (Step n w t s c r) = f
+files_of f (Signoff a b c d e g h i) = f
 
 abbrev the_command : BuildFiles → Command
 the_command f = Build f.lef f.cells f.def f.pdn f.bias f.out_def f.netlist f.certificate f.report
@@ -56,13 +57,15 @@ build_cause laws words solver solver' before after f answer is (inr (inr (inl (n
     let clash = laws.one_command words (Solve n c r) (the_command f) is' is in cc
 build_cause laws words solver solver' before after f answer is (inr (inr (inr (inl (number, side, files, is', why))))) =
     let clash = laws.one_command words (Generate number side files.lef files.cells files.def files.pdn files.bias) (the_command f) is' is in cc
-build_cause laws words solver solver' before after f answer is (inr (inr (inr (inr (inr (g, is', why)))))) =
+build_cause laws words solver solver' before after f answer is (inr (inr (inr (inr (inr (inl (g, is', why))))))) =
     let clash = laws.one_command words (Step g.netlist g.waves g.time g.steps g.certificate g.report) (the_command f) is' is in cc
+build_cause laws words solver solver' before after f answer is (inr (inr (inr (inr (inr (inr (g, is', why))))))) =
+    let clash = laws.one_command words (Signoff g.lef g.cells g.def g.wires g.bias g.netlist g.certificate g.report) (the_command f) is' is in cc
 build_cause laws words solver solver' before after f answer is (inr (inr (inr (inr (inl (f', is', why)))))) =
     record { why = inr (subst (λ (x : BuildFiles). Builds solver solver' before after x answer) (same_build laws words f' f is' is) why) }
 
 -- The status of a run that ends with 0 or 1 is that of its answer.
-of_ending : (result : ℕ) (out out' : SinkThen) (answer : Answer) → Ends result out out' answer → (result ≡ 0) ⊎ (result ≡ 1) → result ≡ status_of answer
+pub of_ending : (result : ℕ) (out out' : SinkThen) (answer : Answer) → Ends result out out' answer → (result ≡ 0) ⊎ (result ≡ 1) → result ≡ status_of answer
 of_ending result out out' answer (inl told) low = told.0
 of_ending result out out' answer (inr (inl unwritten)) low =
     let three : result ≡ 3 = unwritten.0 in absurd (elim low [ inl z ↦ omega (arith, z, three) | inr o ↦ omega (arith, o, three) ])
@@ -77,7 +80,7 @@ abbrev the_texts : FiveTexts → FiveTexts
 the_texts t = t
 
 -- The texts of the files are known, so they are those that are accepted.
-same_text : (held : Holdings) (file : List ℕ) (a b : FileText) → IsInput (Some held) file a → IsInput (Some held) file b → a ≡ b
+pub same_text : (held : Holdings) (file : List ℕ) (a b : FileText) → IsInput (Some held) file a → IsInput (Some held) file b → a ≡ b
 same_text held file a b one other =
     ap (λ (f : List ℕ). the_text (record { file = f; text = a.text })) (one.file_is ∙ sym other.file_is) ∙ ap (λ (t : List ℕ). the_text (record { file = b.file; text = t })) (one.text_is ∙ sym other.text_is)
 
@@ -131,6 +134,7 @@ module _ (solver solver' : SolverThen) (before after : FilesThen) (held : Holdin
   built_whole calm (FloatingCapacitor node) why = absurd why
   built_whole calm (TooManySteps number) why = absurd why
   built_whole calm (Stepped nodes steps) why = absurd why
+  built_whole calm (SignedOff numbers) why = absurd why
   built_whole calm (Solved nodes resistors sweeps) why = absurd why
   built_whole calm (Certified nodes) why = absurd why
   built_whole calm (NotCertified node side found) why = absurd why

@@ -6,10 +6,10 @@ use Rattle.outside.specs.Counts.{FaultCounts, Rose, last_count}
 use Rattle.outside.specs.Files.{Holdings, bytes_in}
 use Rattle.outside.specs.Whole.{longest_text}
 use Rattle.answers.specs.declared.answer.Answer.{Answer}
-use Rattle.answers.specs.declared.answer.Answer.TheVariants.{Usage, Want, ReadFault, WriteFault, TooLong, Refused, NoGrid, Range, TooManySteps, PadConflict, FloatingCapacitor, Unsupplied, Built, Generated, Solved, Stepped, Certified, NotCertified}
+use Rattle.answers.specs.declared.answer.Answer.TheVariants.{Usage, Want, ReadFault, WriteFault, TooLong, Refused, NoGrid, Range, TooManySteps, PadConflict, FloatingCapacitor, Unsupplied, Built, SignedOff, Generated, Solved, Stepped, Certified, NotCertified}
 use Rattle.judging.specs.Judging.{Judges}
 use Rattle.pdn_signoff.specs.declared.design_files.DesignFiles.{DesignFiles}
-use Rattle.pdn_signoff.specs.Words.{IsCheck, IsGenerate, IsNotSolve, IsNotBuild, IsNotStep, IsUsage}
+use Rattle.pdn_signoff.specs.Words.{IsCheck, IsGenerate, IsNotSolve, IsNotBuild, IsNotStep, IsNotSignoff, IsUsage}
 use Rattle.pdn_signoff.specs.Check.{FilesThen, NoneFailed, JudgesFiles, Answers}
 use Rattle.pdn_signoff.specs.Solve.{SolverThen, WriteFailed}
 use Rattle.pdn_signoff.specs.Generate.{Generates}
@@ -129,6 +129,7 @@ stage_of before after held n c Generated known some why = absurd why
 stage_of before after held n c (FloatingCapacitor node) known some why = absurd why
 stage_of before after held n c (TooManySteps number) known some why = absurd why
 stage_of before after held n c (Stepped nodes steps) known some why = absurd why
+stage_of before after held n c (SignedOff numbers) known some why = absurd why
 stage_of before after held n c (Solved nodes resistors sweeps) known some why = absurd why
 stage_of before after held n c (Certified nodes) known some why = judged_stage before after held n c (Certified nodes) known some why
 stage_of before after held n c (NotCertified node side found) known some why = judged_stage before after held n c (NotCertified node side found) known some why
@@ -158,9 +159,9 @@ module _ (before after : FilesThen) (held : Holdings) (number side : ℕ) (files
   one_made a b some_a some_b x y = one_made_stage a b some_a some_b (made_stage before after number side files a x) (made_stage before after number side files b y)
 
 -- Of the answers other than want of memory, one alone has its cause.
-pub one_answer : AreLaws → (words : List (List ℕ)) (solver solver' : SolverThen) (before after : FilesThen) (held : Holdings) (a b : Answer) → before.known ≡ Some held → CanRise after.counts → IsNotSolve words → IsNotBuild words → IsNotStep words
+pub one_answer : AreLaws → (words : List (List ℕ)) (solver solver' : SolverThen) (before after : FilesThen) (held : Holdings) (a b : Answer) → before.known ≡ Some held → CanRise after.counts → IsNotSolve words → IsNotBuild words → IsNotStep words → IsNotSignoff words
     → IsCause words solver solver' before after a → IsCause words solver solver' before after b → a ≢ Want → b ≢ Want → a ≡ b
-one_answer laws words solver solver' before after held a b known can not_solve not_build not_step x y some_a some_b =
+one_answer laws words solver solver' before after held a b known can not_solve not_build not_step not_signoff x y some_a some_b =
     one_of_two Used (λ p. Over p ⊎ Made p) (λ p q e f. e.0 ∙ sym f.0) (one_of_two Over Made one_over one_of_made over_or_made) used_or_not a b (settled a some_a x) (settled b some_b y)
   where
     Used : Answer → Type 0
@@ -180,7 +181,8 @@ one_answer laws words solver solver' before after held a b known can not_solve n
       | inr (inr (inl (n, c, r, is, why))) ↦ absurd (not_solve n c r is)
       | inr (inr (inr (inl made))) ↦ inr (inr (some, made))
       | inr (inr (inr (inr (inl built)))) ↦ absurd (not_build built.0 built.1)
-      | inr (inr (inr (inr (inr steps)))) ↦ absurd (not_step steps.0 steps.1)
+      | inr (inr (inr (inr (inr (inl steps))))) ↦ absurd (not_step steps.0 steps.1)
+      | inr (inr (inr (inr (inr (inr signed))))) ↦ absurd (not_signoff signed.0 signed.1)
     ]
 
     used_or_not : (p q : Answer) → Used p → (Over q ⊎ Made q) → ⊥

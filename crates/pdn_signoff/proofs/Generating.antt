@@ -3,7 +3,7 @@ use Rattle.std.proofs.Common.{◌≡◌, ◌≢◌, ◌⊎◌, inl, inr, ℕ, Li
 use Rattle.outside.specs.Counts.{Rose}
 use Rattle.outside.specs.Known.{WhereKnown}
 use Rattle.answers.specs.declared.answer.Answer.{Answer}
-use Rattle.answers.specs.declared.answer.Answer.TheVariants.{Usage, Want, ReadFault, WriteFault, TooLong, Refused, NoGrid, Range, TooManySteps, PadConflict, FloatingCapacitor, Unsupplied, Built, Generated, Solved, Stepped, Certified, NotCertified}
+use Rattle.answers.specs.declared.answer.Answer.TheVariants.{Usage, Want, ReadFault, WriteFault, TooLong, Refused, NoGrid, Range, TooManySteps, PadConflict, FloatingCapacitor, Unsupplied, Built, SignedOff, Generated, Solved, Stepped, Certified, NotCertified}
 use Rattle.answers.specs.Answer.{status_of}
 use Rattle.grid_gen.specs.declared.inputs.Inputs.{Inputs}
 use Rattle.grid_gen.specs.declared.fixed.TheConstants.{TECHNOLOGY, CELLS, SCRIPT}
@@ -69,6 +69,7 @@ module _ (before after : FilesThen) (number side : ℕ) (files : DesignFiles) wh
   made_stage (FloatingCapacitor node) why = absurd why
   made_stage (TooManySteps value) why = absurd why
   made_stage (Stepped nodes steps) why = absurd why
+  made_stage (SignedOff numbers) why = absurd why
   made_stage (Solved nodes resistors sweeps) why = absurd why
   made_stage (Certified nodes) why = absurd why
   made_stage (NotCertified node bound found) why = absurd why

@@ -9,6 +9,9 @@ mod Once
 mod Reading
 mod Running
 mod Signing
+mod SignoffAnswers
+mod SignoffOfBuild
+mod SignoffRuns
 mod Solving
 mod Staged
 mod StepAnswers

@@ -5,7 +5,7 @@ use Rattle.outside.specs.Known.{WhereKnown}
 use Rattle.answers.specs.declared.answer.Answer.{Answer}
 use Rattle.answers.specs.declared.answer.Answer.TheVariants.{Want}
 use Rattle.answers.specs.Answer.{status_of}
-use Rattle.command_words.specs.declared.command.Command.TheVariants.{Build, Check, Solve, Generate, Step}
+use Rattle.command_words.specs.declared.command.Command.TheVariants.{Build, Check, Solve, Generate, Step, Signoff}
 use Rattle.output_files.specs.Outputs.{HoldEach}
 use Rattle.pdn_signoff.specs.declared.design_files.DesignFiles.{DesignFiles}
 use Rattle.pdn_signoff.specs.Words.{IsGenerate}
@@ -28,8 +28,10 @@ generate_cause laws words solver solver' before after number side files answer i
     let clash = laws.one_command words (Check n c) (Generate number side files.lef files.cells files.def files.pdn files.bias) is' is in cc
 generate_cause laws words solver solver' before after number side files answer is (inr (inr (inl (n, c, r, is', why)))) =
     let clash = laws.one_command words (Solve n c r) (Generate number side files.lef files.cells files.def files.pdn files.bias) is' is in cc
-generate_cause laws words solver solver' before after number side files answer is (inr (inr (inr (inr (inr (g, is', why)))))) =
+generate_cause laws words solver solver' before after number side files answer is (inr (inr (inr (inr (inr (inl (g, is', why))))))) =
     let clash = laws.one_command words (Step g.netlist g.waves g.time g.steps g.certificate g.report) (Generate number side files.lef files.cells files.def files.pdn files.bias) is' is in cc
+generate_cause laws words solver solver' before after number side files answer is (inr (inr (inr (inr (inr (inr (g, is', why))))))) =
+    let clash = laws.one_command words (Signoff g.lef g.cells g.def g.wires g.bias g.netlist g.certificate g.report) (Generate number side files.lef files.cells files.def files.pdn files.bias) is' is in cc
 generate_cause laws words solver solver' before after number side files answer is (inr (inr (inr (inr (inl (f, is', why)))))) =
     let clash = laws.one_command words (Build f.lef f.cells f.def f.pdn f.bias f.out_def f.netlist f.certificate f.report) (Generate number side files.lef files.cells files.def files.pdn files.bias) is' is in cc
 generate_cause laws words solver solver' before after number side files answer is (inr (inr (inr (inl (number', side', files', is', why))))) =

@@ -9,10 +9,10 @@ use Rattle.outside.specs.Counts.{FaultCounts, ChangesReads, Rose}
 use Rattle.outside.specs.Files.{Holdings, bytes_in}
 use Rattle.outside.specs.Whole.{longest_text}
 use Rattle.answers.specs.declared.answer.Answer.{Answer}
-use Rattle.answers.specs.declared.answer.Answer.TheVariants.{Usage, Want, ReadFault, WriteFault, TooLong, Refused, NoGrid, Range, TooManySteps, PadConflict, FloatingCapacitor, Unsupplied, Built, Generated, Solved, Stepped, Certified, NotCertified}
+use Rattle.answers.specs.declared.answer.Answer.TheVariants.{Usage, Want, ReadFault, WriteFault, TooLong, Refused, NoGrid, Range, TooManySteps, PadConflict, FloatingCapacitor, Unsupplied, Built, SignedOff, Generated, Solved, Stepped, Certified, NotCertified}
 use Rattle.answers.specs.declared.built.Built.{Built as Numbers}
 use Rattle.bound_check.specs.Certified.{Certificate}
-use Rattle.building.specs.Building.{Design, IsDesignOf, AreOutputsOf, numbers_of}
+use Rattle.building.specs.Building.{Design, IsDesignOf, AreOutputsOf}
 use Rattle.building.specs.Inputs.{FiveTexts}
 use Rattle.building.specs.Refusal.{IsUnbuilt}
 use Rattle.grid_net.specs.Network.{Network}
@@ -56,6 +56,7 @@ alike_from Generated b e = e
 alike_from (FloatingCapacitor node) b e = e
 alike_from (TooManySteps number) b e = e
 alike_from (Stepped nodes steps) b e = e
+alike_from (SignedOff numbers) b e = e
 alike_from (Solved nodes resistors sweeps) b e = e
 alike_from (Certified nodes) b e = e
 alike_from (NotCertified node side found) b e = e
@@ -176,6 +177,7 @@ module _ (laws : AreDesignLaws) (before after : FilesThen) (held : Holdings) (f 
   stage_of solver solver' (FloatingCapacitor node) some why = absurd why
   stage_of solver solver' (TooManySteps number) some why = absurd why
   stage_of solver solver' (Stepped nodes steps) some why = absurd why
+  stage_of solver solver' (SignedOff numbers) some why = absurd why
   stage_of solver solver' (Solved nodes resistors sweeps) some why = absurd why
   stage_of solver solver' (Certified nodes) some why = absurd why
   stage_of solver solver' (NotCertified node side found) some why = absurd why

@@ -106,17 +106,17 @@ module _ (files : List (List ℕ)) (Refuses : Answer → Type 0) (Makes : Texts 
   written_so : (answer : Answer) (m : MakesOutputs Makes solver solver' before after answer) → answer ≡ m.done → NoneFailed before after → AreWritten before after m.outputs → IsWritten answer
   written_so answer m told calm written = record { outputs = m.outputs; made = subst (λ a. Makes m.outputs a) (sym told) m.made; asked = m.asked; calm = calm; written = written }
 
-  -- The status 0 says that they are, where no refusal has it.
-  pub zero_written : ((a : Answer) → Refuses a → status_of a ≢ 0) → (answer : Answer) → Cause answer → status_of answer ≡ 0 → IsWritten answer
-  zero_written refused answer (inl (kept, inl (file, place, told, first, fails))) e = let three : status_of answer ≡ 3 = ap status_of told in absurd (omega (arith, three, e))
-  zero_written refused answer (inl (kept, inr (inl (file, place, told, calm, first, long)))) e = let four : status_of answer ≡ 4 = ap status_of told in absurd (omega (arith, four, e))
-  zero_written refused answer (inl (kept, inr (inr (inl (calm, why))))) e = absurd (refused answer why e)
-  zero_written refused answer (inl (kept, inr (inr (inr want)))) e = let ten : status_of answer ≡ 10 = ap status_of want in absurd (omega (arith, ten, e))
-  zero_written refused answer (inr m) e =
+  -- A status below 3 says that they are, where no refusal has it.
+  pub low_written : (n : ℕ) → n < 3 → ((a : Answer) → Refuses a → status_of a ≢ n) → (answer : Answer) → Cause answer → status_of answer ≡ n → IsWritten answer
+  low_written n low refused answer (inl (kept, inl (file, place, told, first, fails))) e = let three : status_of answer ≡ 3 = ap status_of told in absurd (omega (arith, three, e, low))
+  low_written n low refused answer (inl (kept, inr (inl (file, place, told, calm, first, long)))) e = let four : status_of answer ≡ 4 = ap status_of told in absurd (omega (arith, four, e, low))
+  low_written n low refused answer (inl (kept, inr (inr (inl (calm, why))))) e = absurd (refused answer why e)
+  low_written n low refused answer (inl (kept, inr (inr (inr want)))) e = let ten : status_of answer ≡ 10 = ap status_of want in absurd (omega (arith, ten, e, low))
+  low_written n low refused answer (inr m) e =
       elim m.ends [
         | inl done ↦ written_so answer m done.0 done.1 done.2
-        | inr (inl short) ↦ let ten : status_of answer ≡ 10 = ap status_of short.0 in absurd (omega (arith, ten, e))
-        | inr (inr stops) ↦ absurd (elim (stop_status before after m.outputs answer stops) [ inl three ↦ omega (arith, three, e) | inr ten ↦ omega (arith, ten, e) ])
+        | inr (inl short) ↦ let ten : status_of answer ≡ 10 = ap status_of short.0 in absurd (omega (arith, ten, e, low))
+        | inr (inr stops) ↦ absurd (elim (stop_status before after m.outputs answer stops) [ inl three ↦ omega (arith, three, e, low) | inr ten ↦ omega (arith, ten, e, low) ])
       ]
 
   -- Where no file is too long, nothing is refused and no call fails, they are, or memory ran out.

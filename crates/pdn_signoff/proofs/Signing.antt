@@ -5,9 +5,9 @@ use Rattle.outside.specs.Files.{Holdings, bytes_in}
 use Rattle.outside.specs.Known.{WhereKnown}
 use Rattle.outside.specs.Whole.{longest_text}
 use Rattle.answers.specs.declared.answer.Answer.{Answer}
-use Rattle.answers.specs.declared.answer.Answer.TheVariants.{Usage, Want, ReadFault, WriteFault, TooLong, Refused, NoGrid, Range, TooManySteps, PadConflict, FloatingCapacitor, Unsupplied, Built, Generated, Solved, Stepped, Certified, NotCertified}
+use Rattle.answers.specs.declared.answer.Answer.TheVariants.{Usage, Want, ReadFault, WriteFault, TooLong, Refused, NoGrid, Range, TooManySteps, PadConflict, FloatingCapacitor, Unsupplied, Built, SignedOff, Generated, Solved, Stepped, Certified, NotCertified}
 use Rattle.answers.specs.Answer.{status_of}
-use Rattle.command_words.specs.declared.command.Command.TheVariants.{Build, Solve, Generate, Step}
+use Rattle.command_words.specs.declared.command.Command.TheVariants.{Build, Solve, Generate, Step, Signoff}
 use Rattle.certificate_file.specs.Format.{ReadsCertificate}
 use Rattle.judging.specs.Texts.{HasNetwork}
 use Rattle.short_merge.specs.declared.merged.Merged.{Merged}
@@ -54,8 +54,10 @@ solve_cause laws words solver solver' before after n c r answer is (inr (inr (in
     record { why = inr (subst (λ x. Solves solver solver' before after n c x answer) same_r (subst (λ x. Solves solver solver' before after n x r' answer) same_c (subst (λ x. Solves solver solver' before after x c' r' answer) same_n why))) }
 solve_cause laws words solver solver' before after n c r answer is (inr (inr (inr (inl (number, side, files, is', why))))) =
     let clash = laws.one_command words (Solve n c r) (Generate number side files.lef files.cells files.def files.pdn files.bias) is is' in cc
-solve_cause laws words solver solver' before after n c r answer is (inr (inr (inr (inr (inr (g, is', why)))))) =
+solve_cause laws words solver solver' before after n c r answer is (inr (inr (inr (inr (inr (inl (g, is', why))))))) =
     let clash = laws.one_command words (Solve n c r) (Step g.netlist g.waves g.time g.steps g.certificate g.report) is is' in cc
+solve_cause laws words solver solver' before after n c r answer is (inr (inr (inr (inr (inr (inr (g, is', why))))))) =
+    let clash = laws.one_command words (Solve n c r) (Signoff g.lef g.cells g.def g.wires g.bias g.netlist g.certificate g.report) is is' in cc
 solve_cause laws words solver solver' before after n c r answer is (inr (inr (inr (inr (inl (f, is', why)))))) =
     let clash = laws.one_command words (Solve n c r) (Build f.lef f.cells f.def f.pdn f.bias f.out_def f.netlist f.certificate f.report) is is' in cc
 
@@ -91,6 +93,7 @@ solved_over solver solver' before after n c r Generated why e = absurd why
 solved_over solver solver' before after n c r (FloatingCapacitor node) why e = absurd why
 solved_over solver solver' before after n c r (TooManySteps number) why e = absurd why
 solved_over solver solver' before after n c r (Stepped nodes steps) why e = absurd why
+solved_over solver solver' before after n c r (SignedOff numbers) why e = absurd why
 solved_over solver solver' before after n c r (Solved nodes resistors sweeps) (signed, file, calm, numbers, asked, holds) e = record { signed = signed; file = file; asked = asked; holds = holds }
 solved_over solver solver' before after n c r (Certified nodes) why e = absurd why
 solved_over solver solver' before after n c r (NotCertified node side found) why e = absurd why
@@ -189,6 +192,7 @@ module _ (laws : AreSolvingLaws) (solver solver' : SolverThen) (before after : F
   solved_so (FloatingCapacitor node) why = absurd why
   solved_so (TooManySteps number) why = absurd why
   solved_so (Stepped nodes steps) why = absurd why
+  solved_so (SignedOff numbers) why = absurd why
   solved_so (Solved nodes resistors sweeps) (signed, file, none, numbers, asked, holds) =
       let same = (laws.network file.text file.named named file.merged merged file.signs.gives.network (read_network file.text file.text_is)).1 in
       inl (refl, subst (λ (m : Merged). EachIsSupplied m.net) same file.signs.supplied)

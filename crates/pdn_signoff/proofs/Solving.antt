@@ -8,7 +8,7 @@ use Rattle.outside.specs.Whole.{longest_text}
 use Rattle.outside.specs.declared.whole.ReadError.{ReadError}
 use Rattle.outside.specs.declared.whole.ReadError.TheVariants as reading
 use Rattle.answers.specs.declared.answer.Answer.{Answer}
-use Rattle.answers.specs.declared.answer.Answer.TheVariants.{Usage, Want, ReadFault, WriteFault, TooLong, Refused, NoGrid, Range, TooManySteps, PadConflict, FloatingCapacitor, Unsupplied, Built, Generated, Solved, Stepped, Certified, NotCertified}
+use Rattle.answers.specs.declared.answer.Answer.TheVariants.{Usage, Want, ReadFault, WriteFault, TooLong, Refused, NoGrid, Range, TooManySteps, PadConflict, FloatingCapacitor, Unsupplied, Built, SignedOff, Generated, Solved, Stepped, Certified, NotCertified}
 use Rattle.solving.specs.declared.signed.Signed.{Signed}
 use Rattle.solving.specs.Refusal.{IsUnsigned, IsToUnsigned}
 use Rattle.pdn_signoff.specs.Check.{FilesThen, NoneFailed, IsTextOf}
@@ -18,6 +18,7 @@ use Rattle.pdn_signoff.specs.inside.Check.{unread_answer}
 use Rattle.pdn_signoff.specs.inside.Solve.{Writes}
 use Rattle.pdn_signoff.proofs.Building.{want_built}
 use Rattle.pdn_signoff.proofs.Generating.{want_made}
+use Rattle.pdn_signoff.proofs.SignoffAnswers.{want_signed_off}
 use Rattle.pdn_signoff.proofs.StepAnswers.{want_stepped}
 
 module _ (solver solver' : SolverThen) (before after : FilesThen) (n c r : List ℕ) where
@@ -50,6 +51,7 @@ module _ (solver solver' : SolverThen) (before after : FilesThen) (n c r : List 
   file_refused kept calm text is fits (FloatingCapacitor node) sort refuses = sort
   file_refused kept calm text is fits (TooManySteps number) sort refuses = sort
   file_refused kept calm text is fits (Stepped nodes steps) sort refuses = sort
+  file_refused kept calm text is fits (SignedOff numbers) sort refuses = sort
   file_refused kept calm text is fits (Solved nodes resistors sweeps) sort refuses = absurd sort
   file_refused kept calm text is fits (Certified nodes) sort refuses = sort
   file_refused kept calm text is fits (NotCertified node side found) sort refuses = sort
@@ -87,6 +89,7 @@ module _ (solver solver' : SolverThen) (before after : FilesThen) (n c r : List 
   want_solved (FloatingCapacitor node) why = absurd why
   want_solved (TooManySteps number) why = absurd why
   want_solved (Stepped nodes steps) why = absurd why
+  want_solved (SignedOff numbers) why = absurd why
   want_solved (Solved nodes resistors sweeps) (signed, file_is, calm, numbers, asked, holds) =
       inr (signed, file_is, inr (whole_known signed.certificate signed.report before.known after.known holds))
   want_solved (Certified nodes) why = absurd why
@@ -134,4 +137,5 @@ want_too words solver solver' before after answer (inr (inl check)) = inl (check
 want_too words solver solver' before after answer (inr (inr (inl (n, c, r, is, why)))) = inr (inr (inl (n, c, r, is, want_solved solver solver' before after n c r answer why)))
 want_too words solver solver' before after answer (inr (inr (inr (inl (number, side, files, is, why))))) = inr (inr (inr (inl (number, side, files, is, want_made before after number side files answer why))))
 want_too words solver solver' before after answer (inr (inr (inr (inr (inl (f, is, why)))))) = inr (inr (inr (inr (inl (f, is, want_built solver solver' before after f answer why)))))
-want_too words solver solver' before after answer (inr (inr (inr (inr (inr (f, is, why)))))) = inr (inr (inr (inr (inr (f, is, want_stepped solver solver' before after f answer why)))))
+want_too words solver solver' before after answer (inr (inr (inr (inr (inr (inl (f, is, why))))))) = inr (inr (inr (inr (inr (inl (f, is, want_stepped solver solver' before after f answer why))))))
+want_too words solver solver' before after answer (inr (inr (inr (inr (inr (inr (f, is, why))))))) = inr (inr (inr (inr (inr (inr (f, is, want_signed_off solver solver' before after f answer why))))))

@@ -8,7 +8,7 @@ use Rattle.outside.specs.Whole.{longest_text}
 use Rattle.input_files.specs.Inputs.{names_of, AreTextsOf}
 use Rattle.outside.specs.Known.{WhereKnown}
 use Rattle.answers.specs.declared.answer.Answer.{Answer}
-use Rattle.answers.specs.declared.answer.Answer.TheVariants.{Usage, Want, ReadFault, WriteFault, TooLong, Refused, NoGrid, Range, TooManySteps, PadConflict, FloatingCapacitor, Unsupplied, Built, Generated, Solved, Stepped, Certified, NotCertified}
+use Rattle.answers.specs.declared.answer.Answer.TheVariants.{Usage, Want, ReadFault, WriteFault, TooLong, Refused, NoGrid, Range, TooManySteps, PadConflict, FloatingCapacitor, Unsupplied, Built, SignedOff, Generated, Solved, Stepped, Certified, NotCertified}
 use Rattle.answers.specs.Answer.{status_of}
 use Rattle.output_files.specs.Outputs.{Texts, names}
 use Rattle.stepping.specs.declared.stepped.Stepped.{Stepped as Output}
@@ -21,7 +21,7 @@ use Rattle.pdn_signoff.specs.Step.{step_files_read, step_files_written, step_tex
 use Rattle.pdn_signoff.specs.inside.Step.{WritesStepped}
 use Rattle.pdn_signoff.proofs.Reading.{text_known}
 use Rattle.pdn_signoff.specs.Command.{ChangesAmong}
-use Rattle.pdn_signoff.proofs.Running.{IsWritten, want_too, files_alone, not_status, none_failed, zero_written}
+use Rattle.pdn_signoff.proofs.Running.{IsWritten, want_too, files_alone, not_status, none_failed, low_written}
 
 -- ---- the texts that were read
 pub two_texts : (f : StepFiles) (read : List (Bor (List ℕ))) (texts : List (List ℕ)) → names_of read ≡ step_files_read f → length texts ≡ length read → length texts ≡ 2
@@ -60,6 +60,7 @@ high_status (Built built) x = absurd x
 high_status Generated x = absurd x
 high_status (Solved nodes resistors sweeps) x = absurd x
 high_status (Stepped nodes steps) x = absurd x
+high_status (SignedOff numbers) x = absurd x
 high_status (Certified nodes) x = absurd x
 high_status (NotCertified node side found) x = absurd x
 
@@ -99,7 +100,7 @@ module _ (sort : HaveSort) (solver solver' : SolverThen) (before after : FilesTh
   IsSteppedWhole = IsWritten (step_files_read f) (RefusesStepFiles before.known f) (MakesSteps before.known f) solver solver' before after
 
   pub zero_stepped : (answer : Answer) → StepsBy solver solver' before after f answer → status_of answer ≡ 0 → IsSteppedWhole answer
-  zero_stepped = zero_written (step_files_read f) (RefusesStepFiles before.known f) (MakesSteps before.known f) solver solver' before after (refused_high 0 (omega arith))
+  zero_stepped = low_written (step_files_read f) (RefusesStepFiles before.known f) (MakesSteps before.known f) solver solver' before after 0 (omega arith) (refused_high 0 (omega arith))
 
 pub want_stepped : (solver solver' : SolverThen) (before after : FilesThen) (f : StepFiles) (answer : Answer) → StepsBy solver solver' before after f answer → StepsBy solver solver' before after f Want
 want_stepped solver solver' before after f = want_too (step_files_read f) (RefusesStepFiles before.known f) (MakesSteps before.known f) solver solver' before after

@@ -8,7 +8,7 @@ use Rattle.answers.specs.declared.answer.Answer.{Answer}
 use Rattle.answers.specs.declared.answer.Answer.TheVariants.{Want}
 use Rattle.answers.specs.Answer.{status_of}
 use Rattle.command_words.specs.declared.command.Command.{Command}
-use Rattle.command_words.specs.declared.command.Command.TheVariants.{Build, Check, Solve, Generate, Step}
+use Rattle.command_words.specs.declared.command.Command.TheVariants.{Build, Check, Solve, Generate, Step, Signoff}
 use Rattle.input_files.specs.Inputs.{name_at}
 use Rattle.output_files.specs.Outputs.{Texts, names, HoldEach}
 use Rattle.short_merge.specs.declared.merged.Merged.{Merged}
@@ -42,6 +42,7 @@ files_of f (Build a b c d e g h i j) = f
 files_of f (Solve n c r) = f
 files_of f (Check n c) = f
 files_of f (Generate m s a b c d e) = f
+files_of f (Signoff a b c d e g h i) = f
 
 abbrev the_command : StepFiles → Command
 the_command f = Step f.netlist f.waves f.time f.steps f.certificate f.report
@@ -64,7 +65,9 @@ step_cause laws words solver solver' before after f answer is (inr (inr (inr (in
     let clash = laws.one_command words (Generate number side files.lef files.cells files.def files.pdn files.bias) (the_command f) is' is in cc
 step_cause laws words solver solver' before after f answer is (inr (inr (inr (inr (inl (g, is', why)))))) =
     let clash = laws.one_command words (Build g.lef g.cells g.def g.pdn g.bias g.out_def g.netlist g.certificate g.report) (the_command f) is' is in cc
-step_cause laws words solver solver' before after f answer is (inr (inr (inr (inr (inr (f', is', why)))))) =
+step_cause laws words solver solver' before after f answer is (inr (inr (inr (inr (inr (inr (g, is', why))))))) =
+    let clash = laws.one_command words (Signoff g.lef g.cells g.def g.wires g.bias g.netlist g.certificate g.report) (the_command f) is' is in cc
+step_cause laws words solver solver' before after f answer is (inr (inr (inr (inr (inr (inl (f', is', why))))))) =
     record { why = inr (subst (λ (x : StepFiles). StepsBy solver solver' before after x answer) (same_step laws words f' f is' is) why) }
 
 -- ---- the texts

@@ -6,7 +6,7 @@ use Rattle.outside.specs.Whole.{longest_text}
 use Rattle.outside.specs.declared.whole.ReadError.{ReadError}
 use Rattle.outside.specs.declared.whole.ReadError.TheVariants as reading
 use Rattle.answers.specs.declared.answer.Answer.{Answer}
-use Rattle.answers.specs.declared.answer.Answer.TheVariants.{Usage, Want, ReadFault, WriteFault, TooLong, Refused, NoGrid, Range, TooManySteps, PadConflict, FloatingCapacitor, Unsupplied, Built, Generated, Solved, Stepped, Certified, NotCertified}
+use Rattle.answers.specs.declared.answer.Answer.TheVariants.{Usage, Want, ReadFault, WriteFault, TooLong, Refused, NoGrid, Range, TooManySteps, PadConflict, FloatingCapacitor, Unsupplied, Built, SignedOff, Generated, Solved, Stepped, Certified, NotCertified}
 use Rattle.judging.specs.Judging.{Judges}
 use Rattle.judging.specs.Stage.{IsToTexts}
 use Rattle.pdn_signoff.specs.Check.{FilesThen, NoneFailed, AreTexts, Fits, Answers}
@@ -62,6 +62,7 @@ judged_files sort before after n c nt ct Generated calm texts judged = sort n c 
 judged_files sort before after n c nt ct (FloatingCapacitor node) calm texts judged = sort n c nt ct (FloatingCapacitor node) judged
 judged_files sort before after n c nt ct (TooManySteps number) calm texts judged = sort n c nt ct (TooManySteps number) judged
 judged_files sort before after n c nt ct (Stepped nodes steps) calm texts judged = sort n c nt ct (Stepped nodes steps) judged
+judged_files sort before after n c nt ct (SignedOff numbers) calm texts judged = sort n c nt ct (SignedOff numbers) judged
 judged_files sort before after n c nt ct (Solved nodes resistors sweeps) calm texts judged = sort n c nt ct (Solved nodes resistors sweeps) judged
 judged_files sort before after n c nt ct (Certified nodes) calm texts judged = (calm, (nt, ct, texts, judged))
 judged_files sort before after n c nt ct (NotCertified node side found) calm texts judged = (calm, (nt, ct, texts, judged))

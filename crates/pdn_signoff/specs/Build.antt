@@ -6,13 +6,13 @@ use Rattle.outside.specs.Whole.{longest_text}
 use Rattle.answers.specs.Answer.{built_status}
 use Rattle.answers.specs.declared.answer.Answer.{Answer}
 use Rattle.answers.specs.declared.built.Built.{Built as Numbers}
-use Rattle.answers.specs.declared.answer.Answer.TheVariants.{Usage, Want, ReadFault, WriteFault, TooLong, Refused, NoGrid, Range, TooManySteps, PadConflict, FloatingCapacitor, Unsupplied, Built, Generated, Solved, Stepped, Certified, NotCertified}
+use Rattle.answers.specs.declared.answer.Answer.TheVariants.{Usage, Want, ReadFault, WriteFault, TooLong, Refused, NoGrid, Range, TooManySteps, PadConflict, FloatingCapacitor, Unsupplied, Built, SignedOff, Generated, Solved, Stepped, Certified, NotCertified}
 use Rattle.building.specs.declared.outputs.Outputs.{Outputs}
 use Rattle.building.specs.Building.{Design, IsDesignOf, AreOutputsOf}
 use Rattle.building.specs.Checked.{PassesCheck}
 use Rattle.building.specs.Inputs.{FileText, FiveTexts}
 use Rattle.building.specs.Refusal.{IsUnbuilt}
-use Rattle.building.specs.Solutions.{SolutionsKeep}
+use Rattle.grid_signing.specs.Solutions.{SolutionsKeep}
 use Rattle.output_files.specs.Outputs.{Texts, HoldEach}
 use Rattle.pdn_signoff.specs.declared.build_files.BuildFiles.{BuildFiles}
 use Rattle.pdn_signoff.specs.Check.{FilesThen, NoneFailed, IsTextOf, IsTooLong}
@@ -98,6 +98,7 @@ Builds solver solver' before after f Generated = ⊥
 Builds solver solver' before after f (FloatingCapacitor node) = ⊥
 Builds solver solver' before after f (TooManySteps number) = ⊥
 Builds solver solver' before after f (Stepped nodes steps) = ⊥
+Builds solver solver' before after f (SignedOff numbers) = ⊥
 Builds solver solver' before after f (Solved nodes resistors sweeps) = ⊥
 Builds solver solver' before after f (Certified nodes) = ⊥
 Builds solver solver' before after f (NotCertified node side found) = ⊥

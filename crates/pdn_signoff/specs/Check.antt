@@ -4,7 +4,7 @@ use Rattle.outside.specs.Counts.{FaultCounts, Rose}
 use Rattle.outside.specs.Files.{Holdings, bytes_in}
 use Rattle.outside.specs.Whole.{longest_text}
 use Rattle.answers.specs.declared.answer.Answer.{Answer}
-use Rattle.answers.specs.declared.answer.Answer.TheVariants.{Usage, Want, ReadFault, WriteFault, TooLong, Refused, NoGrid, Range, TooManySteps, PadConflict, FloatingCapacitor, Unsupplied, Built, Generated, Solved, Stepped, Certified, NotCertified}
+use Rattle.answers.specs.declared.answer.Answer.TheVariants.{Usage, Want, ReadFault, WriteFault, TooLong, Refused, NoGrid, Range, TooManySteps, PadConflict, FloatingCapacitor, Unsupplied, Built, SignedOff, Generated, Solved, Stepped, Certified, NotCertified}
 use Rattle.judging.specs.Judging.{Judges}
 
 -- What is known of files at a moment: what they hold, if that is known, and the counts of the calls that failed.
@@ -86,4 +86,5 @@ Answers before after netlist certificate Generated = ⊥
 Answers before after netlist certificate (FloatingCapacitor node) = ⊥
 Answers before after netlist certificate (TooManySteps number) = ⊥
 Answers before after netlist certificate (Stepped nodes steps) = ⊥
+Answers before after netlist certificate (SignedOff numbers) = ⊥
 Answers before after netlist certificate (Solved nodes resistors sweeps) = ⊥

@@ -21,9 +21,11 @@ use Rattle.pdn_signoff.specs.Solve.{SolverThen, IsKept, HoldsBoth, Solves}
 use Rattle.pdn_signoff.specs.Generate.{Generates}
 use Rattle.pdn_signoff.specs.Build.{Builds}
 use Rattle.pdn_signoff.specs.Step.{StepsBy}
-use Rattle.pdn_signoff.specs.Words.{IsCheck, IsSolve, IsGenerate, IsBuild, IsStep, IsUsage}
+use Rattle.pdn_signoff.specs.Signoff.{SignsOff}
+use Rattle.pdn_signoff.specs.Words.{IsCheck, IsSolve, IsGenerate, IsBuild, IsStep, IsSignoff, IsUsage}
 use Rattle.pdn_signoff.specs.declared.build_files.BuildFiles.{BuildFiles}
 use Rattle.pdn_signoff.specs.declared.design_files.DesignFiles.{DesignFiles}
+use Rattle.pdn_signoff.specs.declared.signoff_files.SignoffFiles.{SignoffFiles}
 use Rattle.pdn_signoff.specs.declared.step_files.StepFiles.{StepFiles}
 
 -- What is known of a sink at a moment: the bytes written, if they are known, and the count of the calls that failed.
@@ -43,7 +45,8 @@ IsCause words solver solver' before after answer =
     ⊎ (((number : ℕ) × (side : ℕ) × (files : DesignFiles)
     × IsGenerate words number side files × Generates before after number side files answer)
     ⊎ (((files : BuildFiles) × IsBuild words files × Builds solver solver' before after files answer)
-    ⊎ ((files : StepFiles) × IsStep words files × StepsBy solver solver' before after files answer)))))
+    ⊎ (((files : StepFiles) × IsStep words files × StepsBy solver solver' before after files answer)
+    ⊎ ((files : SignoffFiles) × IsSignoff words files × SignsOff solver solver' before after files answer))))))
 
 -- None of the counts stands at its last value, where a count that stays counts as risen.
 pub record CanRise (counts : FaultCounts) : Type 0 where
@@ -119,6 +122,13 @@ LeavesAccepted netlist certificate old new =
 -- input may have.
 abbrev pub LeavesBuildAccepted : BuildFiles → Holdings → Holdings → Type 0
 LeavesBuildAccepted f old new =
+    length (bytes_in new f.netlist) ≤ longest_text → length (bytes_in new f.certificate) ≤ longest_text
+    → AreAcceptedFiles f.netlist f.certificate new
+
+-- What a sign-off leaves passes `check`. It is asked where the netlist and the certificate have at most as many bytes as an
+-- input may have.
+abbrev pub LeavesSignoffAccepted : SignoffFiles → Holdings → Holdings → Type 0
+LeavesSignoffAccepted f old new =
     length (bytes_in new f.netlist) ≤ longest_text → length (bytes_in new f.certificate) ≤ longest_text
     → AreAcceptedFiles f.netlist f.certificate new
 

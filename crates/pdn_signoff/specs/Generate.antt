@@ -1,7 +1,7 @@
 -- What `generate` answers, and what has to be so where it gives each answer.
 use Rattle.std.specs.Prelude.{◌⊎◌, ℕ, List, [], ◌∷◌}
 use Rattle.answers.specs.declared.answer.Answer.{Answer}
-use Rattle.answers.specs.declared.answer.Answer.TheVariants.{Usage, Want, ReadFault, WriteFault, TooLong, Refused, NoGrid, Range, TooManySteps, PadConflict, FloatingCapacitor, Unsupplied, Built, Generated, Solved, Stepped, Certified, NotCertified}
+use Rattle.answers.specs.declared.answer.Answer.TheVariants.{Usage, Want, ReadFault, WriteFault, TooLong, Refused, NoGrid, Range, TooManySteps, PadConflict, FloatingCapacitor, Unsupplied, Built, SignedOff, Generated, Solved, Stepped, Certified, NotCertified}
 use Rattle.grid_gen.specs.declared.fixed.TheConstants.{TECHNOLOGY, CELLS, SCRIPT}
 use Rattle.grid_gen.specs.Bias.{bias_text}
 use Rattle.grid_gen.specs.Design.{design_text}
@@ -47,5 +47,6 @@ Generates before after number side files (Solved nodes resistors sweeps) = ⊥
 Generates before after number side files (TooManySteps value) = ⊥
 Generates before after number side files (FloatingCapacitor node) = ⊥
 Generates before after number side files (Stepped nodes steps) = ⊥
+Generates before after number side files (SignedOff numbers) = ⊥
 Generates before after number side files (Certified nodes) = ⊥
 Generates before after number side files (NotCertified node bound found) = ⊥

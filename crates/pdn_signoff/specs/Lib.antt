@@ -6,6 +6,7 @@ pub mod Generate
 pub mod Build
 pub mod Runs
 pub mod Step
+pub mod Signoff
 pub mod Command
 pub mod Words
 pub mod inside

@@ -5,7 +5,7 @@ use Rattle.outside.specs.Files.{Holdings, HoldsAll, HoldsFirst}
 use Rattle.outside.specs.Known.{WhereKnown}
 use Rattle.outside.specs.Whole.{longest_text}
 use Rattle.answers.specs.declared.answer.Answer.{Answer}
-use Rattle.answers.specs.declared.answer.Answer.TheVariants.{Usage, Want, ReadFault, WriteFault, TooLong, Refused, NoGrid, Range, TooManySteps, PadConflict, FloatingCapacitor, Unsupplied, Built, Generated, Solved, Stepped, Certified, NotCertified}
+use Rattle.answers.specs.declared.answer.Answer.TheVariants.{Usage, Want, ReadFault, WriteFault, TooLong, Refused, NoGrid, Range, TooManySteps, PadConflict, FloatingCapacitor, Unsupplied, Built, SignedOff, Generated, Solved, Stepped, Certified, NotCertified}
 use Rattle.bound_check.specs.Certified.{Certificate}
 use Rattle.short_merge.specs.declared.merged.Merged.{Merged}
 use Rattle.solving.specs.declared.signed.Signed.{Signed}
@@ -102,6 +102,7 @@ Solves solver solver' before after netlist certificate report Generated = ⊥
 Solves solver solver' before after netlist certificate report (FloatingCapacitor node) = ⊥
 Solves solver solver' before after netlist certificate report (TooManySteps number) = ⊥
 Solves solver solver' before after netlist certificate report (Stepped nodes steps) = ⊥
+Solves solver solver' before after netlist certificate report (SignedOff numbers) = ⊥
 Solves solver solver' before after netlist certificate report (WriteFault file) =
     (signed : Signed) × SignsFile solver.told before.known netlist signed
     × (((file ≡ certificate) × WriteFailed before after certificate × StandsAtCertificate before after certificate signed)

@@ -1,9 +1,10 @@
--- The words that are run: those of `build`, `solve`, `check`, `generate` and `step`.
+-- The words that are run: those of `build`, `solve`, `check`, `generate`, `step` and `signoff`.
 use Rattle.std.specs.Prelude.{ℕ, List}
-use Rattle.command_words.specs.declared.command.Command.TheVariants.{Build, Check, Solve, Generate, Step}
+use Rattle.command_words.specs.declared.command.Command.TheVariants.{Build, Check, Solve, Generate, Step, Signoff}
 use Rattle.command_words.specs.Words.{IsCommand}
 use Rattle.pdn_signoff.specs.declared.build_files.BuildFiles.{BuildFiles}
 use Rattle.pdn_signoff.specs.declared.design_files.DesignFiles.{DesignFiles}
+use Rattle.pdn_signoff.specs.declared.signoff_files.SignoffFiles.{SignoffFiles}
 use Rattle.pdn_signoff.specs.declared.step_files.StepFiles.{StepFiles}
 
 -- The words are those of `check` over these two files.
@@ -28,6 +29,10 @@ IsBuild words f =
 abbrev pub IsStep : List (List ℕ) → StepFiles → Type 0
 IsStep words f = IsCommand words (Step f.netlist f.waves f.time f.steps f.certificate f.report)
 
+-- The words are those of `signoff` over these eight files, of which the last three are written.
+abbrev pub IsSignoff : List (List ℕ) → SignoffFiles → Type 0
+IsSignoff words f = IsCommand words (Signoff f.lef f.cells f.def f.wires f.bias f.netlist f.certificate f.report)
+
 -- The words are not those of `solve`.
 abbrev pub IsNotSolve : List (List ℕ) → Type 0
 IsNotSolve words = (netlist certificate report : List ℕ) → ¬ IsSolve words netlist certificate report
@@ -44,12 +49,16 @@ IsNotBuild words = (files : BuildFiles) → ¬ IsBuild words files
 abbrev pub IsNotStep : List (List ℕ) → Type 0
 IsNotStep words = (files : StepFiles) → ¬ IsStep words files
 
+-- The words are not those of `signoff`.
+abbrev pub IsNotSignoff : List (List ℕ) → Type 0
+IsNotSignoff words = (files : SignoffFiles) → ¬ IsSignoff words files
+
 -- The words are those of no command that writes files.
 abbrev pub WriteNothing : List (List ℕ) → Type 0
-WriteNothing words = IsNotSolve words × IsNotGenerate words × IsNotBuild words × IsNotStep words
+WriteNothing words = IsNotSolve words × IsNotGenerate words × IsNotBuild words × IsNotStep words × IsNotSignoff words
 
 -- The words are those of none of these, so of no command.
 abbrev pub IsUsage : List (List ℕ) → Type 0
 IsUsage words =
     ((netlist certificate : List ℕ) → ¬ IsCheck words netlist certificate) × IsNotSolve words × IsNotGenerate words
-    × IsNotBuild words × IsNotStep words
+    × IsNotBuild words × IsNotStep words × IsNotSignoff words

@@ -3,3 +3,4 @@ pub mod Solve
 pub mod Generate
 pub mod Build
 pub mod Step
+pub mod Signoff

@@ -16,7 +16,7 @@ ghost use Rattle.spice_grid.specs.declared.named.Named.{Named};
 ghost use Rattle.pdn_signoff.specs.Check.{FilesThen};
 ghost use Rattle.pdn_signoff.specs.Solve.{SolverThen};
 ghost use Rattle.pdn_signoff.specs.declared.design_files.DesignFiles.{DesignFiles as Names};
-ghost use Rattle.pdn_signoff.specs.Command.{IsCause, CanRise, Ends, PrintEnds, IsCheckOf, HasCertificate, IsSolveOf, LeavesSigned, LeavesAccepted, LeavesBuildAccepted, ChangesOnly, ChangesAmong, AreAlike};
+ghost use Rattle.pdn_signoff.specs.Command.{IsCause, CanRise, Ends, PrintEnds, IsCheckOf, HasCertificate, IsSolveOf, LeavesSigned, LeavesAccepted, LeavesBuildAccepted, LeavesSignoffAccepted, ChangesOnly, ChangesAmong, AreAlike};
 ghost use Rattle.pdn_signoff.specs.Generate.{file_names, design_texts};
 ghost use Rattle.building.specs.Inputs.{FiveTexts};
 ghost use Rattle.pdn_signoff.specs.declared.build_files.BuildFiles.{BuildFiles as BuildNames};
@@ -24,13 +24,18 @@ ghost use Rattle.pdn_signoff.specs.Build.{files_written, LeavesBuilt, AreAccepte
 ghost use Rattle.stepping.specs.Inputs.{TwoTexts};
 ghost use Rattle.pdn_signoff.specs.declared.step_files.StepFiles.{StepFiles as StepNames};
 ghost use Rattle.pdn_signoff.specs.Step.{step_files_written, LeavesStepped, AreStepsAccepted, AreSteppedAlike};
-ghost use Rattle.pdn_signoff.specs.Words.{IsCheck, IsSolve, IsGenerate, IsBuild, IsStep, IsNotSolve, IsNotBuild, IsNotStep, WriteNothing, IsUsage};
+ghost use Rattle.signing_off.specs.Inputs.{WiredTexts};
+ghost use Rattle.pdn_signoff.specs.declared.signoff_files.SignoffFiles.{SignoffFiles as SignoffNames};
+ghost use Rattle.pdn_signoff.specs.Signoff.{signoff_files_written, LeavesSignedOff, LeavesNetlistOfBuild, AreWiredAccepted, AreSignedAlike};
+ghost use Rattle.pdn_signoff.specs.Words.{IsCheck, IsSolve, IsGenerate, IsBuild, IsStep, IsSignoff, IsNotSolve, IsNotBuild, IsNotStep, IsNotSignoff, WriteNothing, IsUsage};
 
 use crate::build::build;
 use crate::build_files::BuildFiles;
 use crate::check::check;
 use crate::design_files::DesignFiles;
 use crate::generate::generate;
+use crate::signoff::signoff;
+use crate::signoff_files::SignoffFiles;
 use crate::solve::solve;
 use crate::step::step;
 use crate::step_files::StepFiles;
@@ -40,8 +45,10 @@ use command_words::{Command, WordsError, read, words_have_one_command};
 use grid_net::Solver;
 use judging::{answers_to_texts, texts_are_judged_once};
 use number_place::values_fit_their_places;
-use one_design::texts_have_one_design;
+use one_design::{texts_have_one_design, texts_have_one_wired_design};
 use outside::{Argv, Files, Sink, WriteError, send};
+use signed_builds::built_wiring_is_signed_off_alike;
+use signing_off::answers_to_wiring;
 use solving::netlists_are_solved_once;
 use std::alloc::Global;
 use stepping::netlists_are_stepped_alike;
@@ -63,28 +70,31 @@ const WANT: u8 = 10;
 /// extracted, the supply is tested, the network is certified, the four files are written in the order DEF, netlist,
 /// certificate, report. That of `step` is: the words, the netlist and the waves are read, the netlist's text, its shorts are merged, the text of
 /// the waves, capacitors that float, the number of steps, the supply, the steps are certified one after the other, the
-/// certificate is written, the report is written. The line comes last. What comes later is answered only where nothing earlier is refused. `check`
+/// certificate is written, the report is written. That of `signoff` is: the words, the five files are read, their texts, the
+/// wiring is made a grid, its network is extracted, the supply is tested, the network is certified, the three files are written
+/// in the order netlist, certificate, report. The line comes last. What comes later is answered only where nothing earlier is refused. `check`
 /// judges a netlist of which some node has no supply as any other.
 ///
 /// | Status | Line | When |
 /// |---|---|---|
 /// | 0, 1 | `built <p> pieces <s> stacks ..` | `build`: the four outputs are written; 1 where some verdict is UNSAFE or OPEN |
+/// | 0, 1 | `signed <p> pieces <s> stacks ..` | `signoff`: the three outputs are written; 1 where some verdict is UNSAFE or OPEN |
 /// | 0 | `certified <n> nodes` | `check`: the certificate holds on the merged netlist, of n groups |
 /// | 0 | `solved <n> nodes <r> resistors <k> sweeps` | `solve`: certificate and report are written, of n groups |
 /// | 0 | `stepped <n> nodes <m> steps` | `step`: certificate and report are written, of n groups and of m steps after step 0 |
 /// | 0 | `generated` | `generate`: the five files hold the texts of the design |
 /// | 2 | `pdn: Usage` | the words are those of no command |
 /// | 3 | `pdn: ReadFault <file>` | the file could not be read |
-/// | 3 | `pdn: WriteFault <file>` | `build`, `solve`, `step` and `generate`: the file could not be written |
+/// | 3 | `pdn: WriteFault <file>` | `build`, `signoff`, `solve`, `step` and `generate`: the file could not be written |
 /// | 3 | none, or a part of it | the line could not be written |
 /// | 4 | `pdn: TooLong <file>` | the file has more than 2^28 bytes |
 /// | 4 | `pdn: <file>:<line>:<word>: <Kind>` | its text is refused at this word; after `Number` stands why |
-/// | 5 | `pdn: <Variant> ..` | `build`: the script draws no grid, or no network is extracted from it |
+/// | 5 | `pdn: <Variant> ..` | `build`: the script draws no grid, `signoff`: the wiring gives none; or no network is extracted from it |
 /// | 6 | `pdn: Range <quantity> <at> <number>` | a quantity of the netlist passes its limit, or in `step` one of the network of a step |
 /// | 6 | `pdn: Range Steps 0 <number>` | `step`: so many steps times nodes, more than 5·10^6 |
 /// | 6 | `pdn: FloatingCapacitor <node>` | `step`: a capacitor that is not 0 joins two groups of which none is a pad; the earlier group of the first such |
 /// | 6 | `pdn: PadConflict <node> <first> <second>` | two pads of one node, or of one group, differ |
-/// | 7 | `pdn: Unsupplied <node>` | `build`, `solve` and `step`: no chain of resistors joins the node to a pad; the first such node |
+/// | 7 | `pdn: Unsupplied <node>` | `build`, `signoff`, `solve` and `step`: no chain of resistors joins the node to a pad; the first such node |
 /// | 9 | `pdn: NotCertified <node> <side> <found>` | `check`: the certificate fails, first by this test |
 /// | 10 | `pdn: Want`, or a part of a line | memory ran out |
 pub fn run<F: Files, O: Sink, V: Solver>(
@@ -105,7 +115,7 @@ pub fn run<F: Files, O: Sink, V: Solver>(
         (record { known = O.known out.old; faults = O.faults out.old })
         (record { known = O.known out.new; faults = O.faults out.new }) answer }
 
-    // No file changes but the outputs of `build`, `solve`, `step` and `generate`.
+    // No file changes but the outputs of `build`, `signoff`, `solve`, `step` and `generate`.
     ensures kept { WriteNothing words.now → F.known files.new ≡ F.known files.old }
     ensures others { (netlist certificate report : List ℕ) → IsSolve words.now netlist certificate report
         → WhereKnown (ChangesOnly certificate report) (F.known files.old) (F.known files.new) }
@@ -115,6 +125,8 @@ pub fn run<F: Files, O: Sink, V: Solver>(
         → WhereKnown (ChangesAmong (files_written names)) (F.known files.old) (F.known files.new) }
     ensures step_outputs { (names : StepNames) → IsStep words.now names
         → WhereKnown (ChangesAmong (step_files_written names)) (F.known files.old) (F.known files.new) }
+    ensures signoff_outputs { (names : SignoffNames) → IsSignoff words.now names
+        → WhereKnown (ChangesAmong (signoff_files_written names)) (F.known files.old) (F.known files.new) }
 
     // A run ends with 3 or 10, or no call on the files or the sink failed.
     ensures calm { result ≢ 3 → result ≢ 10
@@ -218,12 +230,43 @@ pub fn run<F: Files, O: Sink, V: Solver>(
         → IsStep words.now names → AreStepsAccepted held names texts
         → ¬ Rose (F.counts files.old).faults (F.counts files.new).faults → ¬ Rose (O.faults out.old) (O.faults out.new)
         → (result ≡ 0) ⊎ (result ≡ 10) }
+
+    // After the status 0 or 1 of `signoff` its three outputs hold the texts of the network of the grid of the wiring, with one
+    // resistor for each piece of wire between neighbouring junctions and for each array of cuts and no other, of a tight
+    // certificate of the network, and of the report. For every solution of Ohm's and Kirchhoff's laws on the network, for
+    // every load within its range and over any common denominator, each node's voltage and each branch's current lie within
+    // the intervals that the report holds for it, and each branch that is printed SAFE keeps its limit. The status is 1
+    // where some verdict is UNSAFE or OPEN. All of it speaks of what the files held at entry and hold after the call, where
+    // that is known.
+    ensures signed_off { (names : SignoffNames) → IsSignoff words.now names → (result ≡ 0) ⊎ (result ≡ 1)
+        → WhereKnown (LeavesSignedOff (V.told solver.old) names result) (F.known files.old) (F.known files.new) }
+
+    // Then `check` over the netlist and the certificate accepts them, where it is known what the files hold.
+    ensures signoff_accepted { (names : SignoffNames) → IsSignoff words.now names → (result ≡ 0) ⊎ (result ≡ 1)
+        → WhereKnown (LeavesSignoffAccepted names) (F.known files.old) (F.known files.new) }
+
+    // Where the wiring is the DEF that a `build` over one domain without a region wrote, and the other texts are those that
+    // it read, the netlist is that of the `build`, byte for byte, where it is known what the files hold.
+    ensures signoff_of_build { (names : SignoffNames) → IsSignoff words.now names → (result ≡ 0) ⊎ (result ≡ 1)
+        → WhereKnown (LeavesNetlistOfBuild names) (F.known files.old) (F.known files.new) }
+
+    // Then the solver was asked.
+    ensures signoff_asked { (names : SignoffNames) → IsSignoff words.now names → (result ≡ 0) ⊎ (result ≡ 1)
+        → Rose (V.proposals solver.old) (V.proposals solver.new) }
+
+    // Texts that nothing refuses are signed off, where no call fails and memory lasts: with 0 or 1.
+    ensures signoff_completed { (held : Holdings) (names : SignoffNames) (texts : WiredTexts)
+        → F.known files.old ≡ Some held → IsSignoff words.now names → AreWiredAccepted held names texts
+        → ¬ Rose (F.counts files.old).faults (F.counts files.new).faults → ¬ Rose (O.faults out.old) (O.faults out.new)
+        → (result ≡ 0) ⊎ ((result ≡ 1) ⊎ (result ≡ 10)) }
 {
     no_failing_test();
     answers_to_texts();
     texts_are_judged_once();
     netlists_are_solved_once();
     netlists_are_stepped_alike();
+    answers_to_wiring();
+    built_wiring_is_signed_off_alike();
     words_have_one_command();
     run_command(alloc, words, files, out, solver)
 }
@@ -367,6 +410,28 @@ fn carry_out<F: Files, V: Solver>(
             };
             step(alloc, files, &names, solver)
         }
+        Command::Signoff {
+            lef,
+            cells,
+            def,
+            wires,
+            bias,
+            netlist,
+            certificate,
+            report,
+        } => {
+            let names = SignoffFiles {
+                lef,
+                cells,
+                def,
+                wires,
+                bias,
+                netlist,
+                certificate,
+                report,
+            };
+            signoff(alloc, files, &names, solver)
+        }
     }
 }
 
@@ -400,11 +465,12 @@ fn print<O: Sink>(out: &mut O, line: &[u8], status: u8) -> u8
 
 /// Where it is known what the files hold and no count stands at its last value, one answer alone, want of memory aside,
 /// has its cause: so each of them comes exactly where its cause holds. Of `solve` this leaves open the number of sweeps, of
-/// `build` sweeps and verdicts, which another tight certificate of the same network may change, and of `step` whether a limit is passed
+/// `build` and `signoff` sweeps and verdicts, which another tight certificate of the same network may change, and of `step` whether a limit is passed
 /// at some step, and which, over the bounds of the steps before, which are tight and not single.
 pub fn one_answer_has_its_cause()
     ensures one { (words : List (List ℕ)) (solver solver' : SolverThen) (before after : FilesThen) (held : Holdings)
         (a b : Told) → before.known ≡ Some held → CanRise after.counts → IsNotSolve words → IsNotBuild words → IsNotStep words
+        → IsNotSignoff words
         → IsCause words solver solver' before after a → IsCause words solver solver' before after b
         → a ≢ Want → b ≢ Want → a ≡ b }
     ensures solved { (words : List (List ℕ)) (solver solver' : SolverThen) (before after : FilesThen) (held : Holdings)
@@ -420,10 +486,15 @@ pub fn one_answer_has_its_cause()
         (names : StepNames) (a b : Told) → before.known ≡ Some held → CanRise after.counts → IsStep words names
         → IsCause words solver solver' before after a → IsCause words solver solver' before after b
         → a ≢ Want → b ≢ Want → AreSteppedAlike before names a b }
+    ensures signed_off { (words : List (List ℕ)) (solver solver' : SolverThen) (before after : FilesThen) (held : Holdings)
+        (names : SignoffNames) (a b : Told) → before.known ≡ Some held → CanRise after.counts → IsSignoff words names
+        → IsCause words solver solver' before after a → IsCause words solver solver' before after b
+        → a ≢ Want → b ≢ Want → AreSignedAlike a b }
 {
     texts_are_judged_once();
     netlists_are_solved_once();
     netlists_are_stepped_alike();
     texts_have_one_design();
+    texts_have_one_wired_design();
     words_have_one_command();
 }

@@ -63,6 +63,51 @@ fn build_in_any_order(rt: HostRuntime) -> Result<(), Fail> {
 }
 
 #[test]
+fn signoff_in_any_order(rt: HostRuntime) -> Result<(), Fail> {
+    let words = argv(
+        rt.alloc(),
+        &[
+            "signoff",
+            "--report=h",
+            "--wires",
+            "b",
+            "--lef=a",
+            "--cells=k",
+            "--def",
+            "b",
+            "--bias",
+            "d",
+            "--certificate=g",
+            "--netlist",
+            "f",
+        ],
+    )?;
+    match read(rt.alloc(), &words)? {
+        Command::Signoff {
+            lef,
+            cells,
+            def,
+            wires,
+            bias,
+            netlist,
+            certificate,
+            report,
+        } => {
+            assert_eq!(rt; lef.as_str(), "a");
+            assert_eq!(rt; cells.as_str(), "k");
+            assert_eq!(rt; def.as_str(), "b");
+            assert_eq!(rt; wires.as_str(), "b");
+            assert_eq!(rt; bias.as_str(), "d");
+            assert_eq!(rt; netlist.as_str(), "f");
+            assert_eq!(rt; certificate.as_str(), "g");
+            assert_eq!(rt; report.as_str(), "h");
+        }
+        _ => panic!(rt; "another command"),
+    }
+    Ok(())
+}
+
+#[test]
 fn solve_and_check(rt: HostRuntime) -> Result<(), Fail> {
     let words = argv(
         rt.alloc(),

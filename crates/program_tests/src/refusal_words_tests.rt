@@ -1,5 +1,6 @@
 //! Refusals as they are told. The lines were worked out apart from this code.
 use def_design::{Design, read_design};
+use def_wiring::read_wires;
 use entry_list::Entries;
 use geom_rect::Rect;
 use grid_network::ExtractError;
@@ -11,6 +12,7 @@ use refusal_words::*;
 use std::alloc::{AllocError, Global};
 use std::test::Fail;
 use via_arrays::StackError;
+use wired_grid::{WireCount, WiredError};
 
 /// Two routing layers and a rule that joins them, behind a rule of other cuts.
 const TECHNOLOGY: &[u8] = b"VERSION 5.8 ;
@@ -134,6 +136,35 @@ const EXTRACTION: [(ExtractError, &[u8]); 4] = [
     (ExtractError::LoadOff(0), b"LoadOff u1"),
 ];
 
+/// Wiring with two vias and two nets.
+const WIRING: &[u8] = b"VERSION 5.8 ;
+VIAS 2 ;
+- v1 + VIARULE Via1Array + CUTSIZE 140 140 + LAYERS metal1 via1 metal2 + CUTSPACING 160 160 + ENCLOSURE 0 70 0 70 ;
+- v2 + VIARULE Via1Array + CUTSIZE 140 140 + LAYERS metal1 via1 metal2 + CUTSPACING 160 160 + ENCLOSURE 0 70 0 70 ;
+END VIAS
+SPECIALNETS 2 ;
+- VDD + USE POWER ;
+- VSS + USE GROUND ;
+END SPECIALNETS
+END DESIGN
+";
+
+/// Refusals of wiring, and what is told of each.
+const WIRED: [(WiredError, &[u8]); 9] = [
+    (WiredError::NetCount(2, 0), b"NetCount 2 0"),
+    (WiredError::ViaLayers(1), b"ViaLayers v2"),
+    (WiredError::ViaSize(0), b"ViaSize v1"),
+    (WiredError::OddWidth(1, 961), b"OddWidth VSS 961"),
+    (WiredError::NoSheet(1), b"NoSheet metal2"),
+    (WiredError::NoResistance(0), b"NoResistance metal1"),
+    (
+        WiredError::TooMany(WireCount::Segments),
+        b"TooMany Segments",
+    ),
+    (WiredError::TooMany(WireCount::Vias), b"TooMany Vias"),
+    (WiredError::ViaOff(1, 6000, -2810), b"ViaOff v2 6000 -2810"),
+];
+
 // A grid of two nets.
 fn grid(alloc: Global) -> Result<Grid, AllocError> {
     Ok(Grid {
@@ -187,6 +218,18 @@ fn first_extraction_untold(alloc: Global, design: &Design) -> Result<usize, Allo
     Ok(EXTRACTION.len())
 }
 
+// The first refusal of wiring that is told otherwise, their number where there is none.
+fn first_wired_untold(alloc: Global, tech: &Tech) -> Result<usize, Fail> {
+    let wires = read_wires(alloc, WIRING)?;
+    for (at, (error, words)) in WIRED.iter().enumerate() {
+        let told = wired_words(alloc, tech, &wires, error)?;
+        if told.as_slice() != *words {
+            return Ok(at);
+        }
+    }
+    Ok(WIRED.len())
+}
+
 #[test]
 fn told_refusals(rt: HostRuntime) -> Result<(), Fail> {
     let tech = read_tech(rt.alloc(), TECHNOLOGY)?;
@@ -197,5 +240,7 @@ fn told_refusals(rt: HostRuntime) -> Result<(), Fail> {
     assert!(rt; tells_any_bytes(rt.alloc(), &tech, &design, &script)?);
     let extracted = first_extraction_untold(rt.alloc(), &design)?;
     assert_eq!(rt; extracted, EXTRACTION.len());
+    let wired = first_wired_untold(rt.alloc(), &tech)?;
+    assert_eq!(rt; wired, WIRED.len());
     Ok(())
 }

@@ -23,7 +23,7 @@ use Rattle.def_design.specs.declared.record.Design.{Design as Record}
 use Rattle.def_design.specs.Unit.{is_design}
 use Rattle.def_design.specs.Record.{SaysName, Stated}
 use Rattle.def_design.specs.Format.{format, ReadsDesign}
-use Rattle.read_names.proofs.Words.{IsGood, AreGood, good-front, good-rest, good_split, good_heard}
+use Rattle.read_names.specs.Laws.Words.{IsGood, AreGood, good-front, good-rest, good_split, good_heard}
 
 -- ## sorts
 

@@ -32,7 +32,7 @@ use Rattle.lef_tech.specs.State.{first_state}
 use Rattle.lef_tech.specs.Statement.{Saying, Says, say_head, say_top, say_type, say_start, say_alone, say_wire_three, say_wire_four, say_wire, say_cut_three, say_cut_four, say_cut, say_table, say_values, say_rule, say_wire_part, say_cut_part, saying}
 use Rattle.lef_tech.specs.Statement.Saying.{Plain, Of, OfTwo, OfCorners}
 use Rattle.lef_tech.specs.Turn.{named, state_after, state_from, state_of}
-use Rattle.read_names.proofs.Words.{IsGood, AreGood, good-front, good-rest, good_split, good_heard}
+use Rattle.read_names.specs.Laws.Words.{IsGood, AreGood, good-front, good-rest, good_split, good_heard}
 
 -- ## types
 

@@ -2,35 +2,12 @@
 use CellsKind::{BadString, Number, Syntax, Twice};
 use DecimalError::{NotNumber, Range, Vanishes};
 use fixed_decimal::DecimalError;
+use grid_gen::CELLS;
 use lef_cells::*;
 use outside::Place;
 use std::alloc::{AllocError, Global};
 use std::process::Abort;
 use std::test::Fail;
-
-/// The cells of the made-up designs.
-const GENERATED: &[u8] = b"VERSION 5.8 ;
-SITE unit
-  SIZE 0.2 BY 1.4 ;
-END unit
-MACRO C0
-  CLASS CORE ;
-  SIZE 1.4 BY 1.4 ;
-END C0
-MACRO C1
-  CLASS CORE ;
-  SIZE 1.4 BY 1.4 ;
-END C1
-MACRO C2
-  CLASS CORE ;
-  SIZE 1.4 BY 1.4 ;
-END C2
-MACRO C3
-  CLASS CORE ;
-  SIZE 1.4 BY 1.4 ;
-END C3
-END LIBRARY
-";
 
 /// A name, a width and a height.
 type SaidSite = (&'static [u8], u64, u64);
@@ -70,7 +47,7 @@ fn compare(rt: &impl Abort, cells: &Cells, said: &Said) {
 
 #[test]
 fn generated_cells(rt: HostRuntime) -> Result<(), Fail> {
-    compare(&rt, &read_cells(rt.alloc(), GENERATED)?, &GENERATED_SAYS);
+    compare(&rt, &read_cells(rt.alloc(), CELLS)?, &GENERATED_SAYS);
     Ok(())
 }
 
@@ -260,7 +237,7 @@ const JOINED_SAYS: Said = Said {
 
 #[test]
 fn joined_cells(rt: HostRuntime) -> Result<(), Fail> {
-    let first = read_cells(rt.alloc(), GENERATED)?;
+    let first = read_cells(rt.alloc(), CELLS)?;
     let second = read_cells(rt.alloc(), OTHER)?;
     compare(&rt, &first.join(second)?, &JOINED_SAYS);
     Ok(())

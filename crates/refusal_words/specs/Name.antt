@@ -3,6 +3,9 @@ use Rattle.std.specs.Prelude.{ℕ, List, [], map, slice_index_or}
 use Rattle.def_design.specs.declared.record.Component.{Component}
 use Rattle.def_design.specs.declared.record.Design.{Design}
 use Rattle.def_design.specs.declared.record.Row.{Row}
+use Rattle.def_wiring.specs.declared.record.ViaDef.{ViaDef}
+use Rattle.def_wiring.specs.declared.record.WiredNet.{WiredNet}
+use Rattle.def_wiring.specs.declared.record.Wires.{Wires}
 use Rattle.grid_pieces.specs.declared.grid.Grid.{Grid}
 use Rattle.lef_tech.specs.declared.layer.RoutingLayer.{RoutingLayer}
 use Rattle.lef_tech.specs.declared.rule.ViaRule.{ViaRule}
@@ -33,3 +36,11 @@ component_name design component = slice_index_or (map (λ (c : Component). c.nam
 -- The name of a net of a grid.
 abbrev pub net_name : Grid → ℕ → List ℕ
 net_name grid net = slice_index_or grid.nets net []
+
+-- The name of a generated via of wiring.
+abbrev pub via_name : Wires → ℕ → List ℕ
+via_name wires via = slice_index_or (map (λ (v : ViaDef). v.name) wires.vias) via []
+
+-- The name of a net of wiring.
+abbrev pub wired_net_name : Wires → ℕ → List ℕ
+wired_net_name wires net = slice_index_or (map (λ (n : WiredNet). n.name) wires.nets) net []

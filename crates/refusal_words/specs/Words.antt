@@ -1,4 +1,4 @@
--- The words by which a refusal of a drawing or of an extraction is told (this project): which refusal it is, and after a
+-- The words by which a refusal of a drawing, of wiring or of an extraction is told (this project): which refusal it is, and after a
 -- blank each thing that it is about. A thing with a name is told by its name, a ring or a connect by its place from 0
 -- in the script, a length and a place in x or y by its whole number.
 use Rattle.std.specs.Prelude.{ℕ, ℤ, Bool, true, false, List, ◌++◌, codes, decimal}
@@ -17,7 +17,12 @@ use Rattle.lef_tech.specs.declared.tech.Tech.{Tech}
 use Rattle.pdn_script.specs.declared.record.Script.{Script}
 use Rattle.via_arrays.specs.declared.error.StackError.{StackError}
 use Rattle.via_arrays.specs.declared.error.StackError.TheVariants as stacked
-use Rattle.refusal_words.specs.Name.{layer_name, rule_name, domain_name, row_name, component_name, net_name}
+use Rattle.def_wiring.specs.declared.record.Wires.{Wires}
+use Rattle.wire_limits.specs.declared.error.WireCount.{WireCount}
+use Rattle.wire_limits.specs.declared.error.WireCount.TheVariants.{Segments, Vias}
+use Rattle.wired_grid.specs.declared.error.WiredError.{WiredError}
+use Rattle.wired_grid.specs.declared.error.WiredError.TheVariants as wired
+use Rattle.refusal_words.specs.Name.{layer_name, rule_name, domain_name, row_name, component_name, net_name, via_name, wired_net_name}
 
 -- What stands too many times.
 abbrev pub counted_word : Counted → List ℕ
@@ -81,3 +86,24 @@ extract_words grid design (extracted.PadOff line) = codes "PadOff " ++ decimal l
 extract_words grid design (extracted.LoadOff component) = codes "LoadOff " ++ component_name design component
 extract_words grid design (extracted.Net error) = codes "Net"
 extract_words grid design extracted.Want = codes "Want"
+
+-- What stands too many times in wiring.
+abbrev pub wire_count_word : WireCount → List ℕ
+wire_count_word Segments = codes "Segments"
+wire_count_word Vias = codes "Vias"
+
+-- Why wiring gives no grid. Want of memory is answered as that and not by these words.
+abbrev pub wired_words : Tech → Wires → WiredError → List ℕ
+wired_words tech wires (wired.UnknownName name) = codes "UnknownName " ++ name
+wired_words tech wires (wired.NetCount powers grounds) =
+    codes "NetCount " ++ decimal powers ++ codes " " ++ decimal grounds
+wired_words tech wires (wired.ViaLayers via) = codes "ViaLayers " ++ via_name wires via
+wired_words tech wires (wired.ViaSize via) = codes "ViaSize " ++ via_name wires via
+wired_words tech wires (wired.OddWidth net width) =
+    codes "OddWidth " ++ wired_net_name wires net ++ codes " " ++ signed_decimal width
+wired_words tech wires (wired.NoSheet layer) = codes "NoSheet " ++ layer_name tech layer
+wired_words tech wires (wired.NoResistance layer) = codes "NoResistance " ++ layer_name tech layer
+wired_words tech wires (wired.TooMany what) = codes "TooMany " ++ wire_count_word what
+wired_words tech wires (wired.ViaOff via x y) = codes "ViaOff " ++ via_name wires via ++ codes " " ++ point_words x y
+wired_words tech wires (wired.Touch touching) = codes "Touch " ++ touch_words tech touching
+wired_words tech wires wired.Want = codes "Want"

@@ -46,11 +46,21 @@ pub(crate) fn append_point(words: &mut Vec<u8>, x: i64, y: i64) -> Result<(), Al
     Ok(())
 }
 
-fn append_number(words: &mut Vec<u8>, number: i64) -> Result<(), AllocError>
+/// Appends a whole number behind a blank.
+pub(crate) fn append_number(words: &mut Vec<u8>, number: i64) -> Result<(), AllocError>
     ensures { OnOk result (words.new.items ≡ words.old.items ++ codes " " ++ signed_decimal number) }
 {
     let mut buffer = Buffer::new();
     words.push(b' ')?;
+    words.extend_from_slice(buffer.format(number).as_bytes())?;
+    Ok(())
+}
+
+/// Appends a count.
+pub(crate) fn append_whole(words: &mut Vec<u8>, number: u64) -> Result<(), AllocError>
+    ensures { OnOk result (words.new.items ≡ words.old.items ++ decimal number) }
+{
+    let mut buffer = Buffer::new();
     words.extend_from_slice(buffer.format(number).as_bytes())?;
     Ok(())
 }

@@ -100,7 +100,7 @@ fn append_cause(words: &mut Vec<u8>, tech: &Tech, error: StackError) -> Result<(
     }
 }
 
-fn touches(alloc: Global, tech: &Tech, touching: Touching) -> Result<Vec<u8>, AllocError>
+pub(crate) fn touches(alloc: Global, tech: &Tech, touching: Touching) -> Result<Vec<u8>, AllocError>
     ensures { IfOk result (λ words. words.items ≡ codes "Touch " ++ touch_words tech.now touching) }
 {
     let mut words = named(alloc, b"Touch ", layer_name(tech, touching.layer))?;

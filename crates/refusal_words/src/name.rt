@@ -1,8 +1,9 @@
 //! The names of things by their places. A place that a list lacks, which no refusal has, gives no bytes.
 ghost use Rattle.std.specs.Prelude.{◌≡◌};
-ghost use Rattle.refusal_words.specs.Name.{layer_name, rule_name, domain_name, row_name, component_name, net_name};
+ghost use Rattle.refusal_words.specs.Name.{layer_name, rule_name, domain_name, row_name, component_name, net_name, via_name, wired_net_name};
 
 use def_design::Design;
+use def_wiring::Wires;
 use grid_pieces::Grid;
 use lef_tech::Tech;
 use pdn_script::Script;
@@ -63,6 +64,26 @@ pub(crate) fn net_name(grid: &Grid, net: u32) -> &[u8]
 {
     match grid.nets.as_slice().get(net as usize) {
         Some(net) => net.bytes(),
+        None => b"",
+    }
+}
+
+/// The name of a generated via of wiring.
+pub(crate) fn via_name(wires: &Wires, via: u32) -> &[u8]
+    ensures { result.now ≡ via_name wires.now via }
+{
+    match wires.vias.as_slice().get(via as usize) {
+        Some(via) => via.name.bytes(),
+        None => b"",
+    }
+}
+
+/// The name of a net of wiring.
+pub(crate) fn wired_net_name(wires: &Wires, net: u32) -> &[u8]
+    ensures { result.now ≡ wired_net_name wires.now net }
+{
+    match wires.nets.as_slice().get(net as usize) {
+        Some(net) => net.name.bytes(),
         None => b"",
     }
 }

@@ -1,1 +1,1 @@
-pub mod Missed
+pub mod Near

@@ -1,12 +1,11 @@
 //! Runs of `build` on the small design, over files and a sink in memory.
-use crate::build_texts::{
-    BIAS, CROSSING_CUT, DEF, NETLIST, REPORT, SCRIPT, STACK_BLOCKED, STRAP_CUT, WRITTEN_DEF,
-};
+use crate::build_texts::{BIAS, CROSSING_CUT, NETLIST, REPORT, SCRIPT, STACK_BLOCKED, STRAP_CUT};
 use crate::runs::ran;
 use grid_gen::{CELLS, TECHNOLOGY};
 use grid_net::hostile::{Alternating, Everywhere, Filling};
 use grid_net::{Fixed, Solver};
 use outside::{MemFiles, Name};
+use small_design::{DESIGN, WRITTEN};
 use std::alloc::{AllocError, Global};
 use std::process::Abort;
 use std::test::Fail;
@@ -35,7 +34,7 @@ struct Run<'a> {
 /// The small design, where no call fails.
 fn small() -> Run<'static> {
     Run {
-        def: DEF,
+        def: DESIGN,
         script: SCRIPT,
         bias: BIAS,
         failing: ("", 0),
@@ -114,7 +113,7 @@ fn refused(
 
 /// What the small design's DEF, netlist and report are.
 fn are_those(rt: &(impl Abort + AllocGlobal), files: &MemFiles, netlist: &[u8], report: &[u8]) {
-    assert!(rt; files.bytes("out") == Some(WRITTEN_DEF), "the DEF");
+    assert!(rt; files.bytes("out") == Some(WRITTEN), "the DEF");
     assert!(rt; files.bytes("net") == Some(netlist), "the netlist");
     assert!(rt; files.bytes("rep") == Some(report), "the report");
 }
@@ -161,7 +160,7 @@ pad VSS metal4 1 1.4
         b"built 4 pieces 2 stacks 12 nodes 10 resistors 2 pads 10 safe 1 unsafe 0 open 1 unlimited ";
     let files = ends(&rt, &Run { bias, ..small() }, 1, line)?;
     let head = b"pdn report 1\nnet VDD 0.002600000000000000000000 UNSAFE\nnet VSS none NOLIMIT\n";
-    assert!(rt; files.bytes("out") == Some(WRITTEN_DEF), "the DEF");
+    assert!(rt; files.bytes("out") == Some(WRITTEN), "the DEF");
     assert!(rt;
         files
             .bytes("rep")

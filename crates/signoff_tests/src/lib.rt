@@ -16,6 +16,8 @@ mod generate_tests;
 #[cfg(test)]
 mod runs;
 #[cfg(test)]
+mod signed_tests;
+#[cfg(test)]
 mod solve_tests;
 #[cfg(test)]
 mod step_tests;

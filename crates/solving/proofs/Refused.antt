@@ -4,7 +4,7 @@ use Rattle.std.proofs.lemmas.Bool.{cases_order}
 use Rattle.grid_net.specs.Level.{IsFirstUnsupplied}
 use Rattle.grid_net.specs.Network.{Network}
 use Rattle.answers.specs.declared.answer.Answer.{Answer}
-use Rattle.answers.specs.declared.answer.Answer.TheVariants.{Usage, Want, ReadFault, WriteFault, TooLong, Refused, NoGrid, Range, TooManySteps, PadConflict, FloatingCapacitor, Unsupplied, Built, Generated, Solved, Stepped, Certified, NotCertified}
+use Rattle.answers.specs.declared.answer.Answer.TheVariants.{Usage, Want, ReadFault, WriteFault, TooLong, Refused, NoGrid, Range, TooManySteps, PadConflict, FloatingCapacitor, Unsupplied, Built, SignedOff, Generated, Solved, Stepped, Certified, NotCertified}
 use Rattle.judging.specs.Texts.{HasNetwork}
 use Rattle.judging.specs.Stage.{GivesNetwork, HasNoNetwork, IsToNetlist}
 use Rattle.short_merge.specs.declared.merged.Merged.{Merged}
@@ -76,6 +76,7 @@ module _ (laws : AreNetlistLaws) (file text : List ℕ) where
   netlist_to_unsigned (FloatingCapacitor node) x = x
   netlist_to_unsigned (TooManySteps number) x = x
   netlist_to_unsigned (Stepped nodes steps) x = x
+  netlist_to_unsigned (SignedOff numbers) x = x
   netlist_to_unsigned (Solved nodes resistors sweeps) x = x
   netlist_to_unsigned (Certified nodes) x = x
   netlist_to_unsigned (NotCertified node side found) x = x

@@ -2,7 +2,7 @@
 use Rattle.std.proofs.Common.{◌≡◌, ◌≢◌, ◌⊎◌, inl, inr, ℕ, ◌*◌, ◌<◌, ◌≤◌, List, Option, Some, None, Ok, Err, All, length, min, slice_get, refl, sym, ap, subst, ◌∙◌, arith}
 use Rattle.std.proofs.lemmas.Bool.{cases_order}
 use Rattle.answers.specs.declared.answer.Answer.{Answer}
-use Rattle.answers.specs.declared.answer.Answer.TheVariants.{Usage, Want, ReadFault, WriteFault, TooLong, Refused, NoGrid, Range, TooManySteps, PadConflict, FloatingCapacitor, Unsupplied, Built, Generated, Solved, Stepped, Certified, NotCertified}
+use Rattle.answers.specs.declared.answer.Answer.TheVariants.{Usage, Want, ReadFault, WriteFault, TooLong, Refused, NoGrid, Range, TooManySteps, PadConflict, FloatingCapacitor, Unsupplied, Built, SignedOff, Generated, Solved, Stepped, Certified, NotCertified}
 use Rattle.grid_net.specs.Level.{IsFirstUnsupplied}
 use Rattle.grid_net.specs.Network.{Network}
 use Rattle.judging.specs.Texts.{HasNetwork}
@@ -168,6 +168,7 @@ module _ (laws : AreNetlistLaws) (n w : List ℕ) (t : TwoTexts) (time steps : �
   netlist_to_unstepped Generated x = x
   netlist_to_unstepped (Solved nodes resistors sweeps) x = x
   netlist_to_unstepped (Stepped nodes steps) x = x
+  netlist_to_unstepped (SignedOff numbers) x = x
   netlist_to_unstepped (Certified nodes) x = x
   netlist_to_unstepped (NotCertified node side found) x = x
 

@@ -1,5 +1,4 @@
 mod Lists
-mod Permuted
 mod Order
 mod Column
 mod Paths

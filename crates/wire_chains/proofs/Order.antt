@@ -12,7 +12,7 @@ use Rattle.std.proofs.lemmas.List.Sorted.{sorted_far, ranks_by}
 use Rattle.wire_chains.specs.declared.via.ViaAt.{ViaAt}
 use Rattle.wire_chains.specs.Chain.{LiesOn, AreNumbered, via_order}
 use Rattle.wire_chains.specs.inside.Run.{IsSorted, via_of}
-use Rattle.wire_chains.proofs.Permuted.{apart_permuted}
+use Rattle.list_laws.specs.Laws.Permuted.{apart_permuted}
 
 pub via_total : IsTotalOrder via_order
 via_total =

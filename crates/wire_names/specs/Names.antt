@@ -9,6 +9,7 @@ use Rattle.lef_tech.specs.declared.rule.ViaRule.{ViaRule}
 use Rattle.lef_tech.specs.declared.tech.Tech.{Tech}
 use Rattle.def_wiring.specs.declared.record.Segment.{Segment}
 use Rattle.def_wiring.specs.declared.record.ViaDef.{ViaDef}
+use Rattle.def_wiring.specs.declared.record.ViaPlace.{ViaPlace}
 use Rattle.def_wiring.specs.declared.record.WiredNet.{WiredNet}
 use Rattle.def_wiring.specs.declared.record.Wires.{Wires}
 use Rattle.def_wiring.specs.Limits.{via_name}
@@ -50,8 +51,13 @@ unknown_in_via names via = option_or (unknown names.rules via.rule) (option_or (
 abbrev pub unknown_in_segment : Names → Segment → Option (List ℕ)
 unknown_in_segment names segment = unknown names.layers segment.layer
 
+-- The layer of the path of a via that is placed: the via's own layers count, and this one is only asked for.
+abbrev pub unknown_in_place : Names → ViaPlace → Option (List ℕ)
+unknown_in_place names place = unknown names.layers place.layer
+
 abbrev pub unknown_in_net : Names → WiredNet → Option (List ℕ)
-unknown_in_net names net = first_some (unknown_in_segment names) net.segments
+unknown_in_net names net = option_or (first_some (unknown_in_segment names) net.segments)
+    (first_some (unknown_in_place names) net.vias)
 
 -- The first of all: those of the vias, used or not, and then those of the nets.
 abbrev pub first_unknown : Names → Wires → Option (List ℕ)

@@ -1,10 +1,10 @@
 //! The first name that is not known.
 ghost use Rattle.std.specs.Prelude.{◌≡◌, IfOk};
-ghost use Rattle.wire_names.specs.Names.{first_some, unknown, unknown_in_via, unknown_in_segment, unknown_in_net, first_unknown};
+ghost use Rattle.wire_names.specs.Names.{first_some, unknown, unknown_in_via, unknown_in_segment, unknown_in_place, unknown_in_net, first_unknown};
 ghost use Rattle.wire_names.specs.inside.Tables.{names_in};
 
 use crate::tables::Tables;
-use def_wiring::{Segment, ViaDef, WiredNet, Wires};
+use def_wiring::{Segment, ViaDef, ViaPlace, WiredNet, Wires};
 use name_places::NamePlaces;
 use outside::Name;
 use std::alloc::{AllocError, Global};
@@ -48,7 +48,36 @@ fn in_nets<'a>(
     ensures { IfOk result (λ name. name ≡ first_some (unknown_in_net (names_in tables.now)) nets.now) }
 {
     for net in nets {
-        if let Some(name) = in_segments(alloc, tables, net.segments.as_slice())? {
+        if let Some(name) = in_net(alloc, tables, net)? {
+            return Ok(Some(name));
+        }
+    }
+    Ok(None)
+}
+
+fn in_net<'a>(
+    alloc: Global,
+    tables: &Tables<'a>,
+    net: &'a WiredNet,
+) -> Result<Option<Name>, AllocError>
+    ensures { IfOk result (λ name. name ≡ unknown_in_net (names_in tables.now) net.now) }
+{
+    if let Some(name) = in_segments(alloc, tables, net.segments.as_slice())? {
+        return Ok(Some(name));
+    }
+    in_places(alloc, tables, net.vias.as_slice())
+}
+
+#[tactic(auto, using(crate::proofs::Found::found_at, crate::proofs::Found::none_at))]
+fn in_places<'a>(
+    alloc: Global,
+    tables: &Tables<'a>,
+    places: &'a [ViaPlace],
+) -> Result<Option<Name>, AllocError>
+    ensures { IfOk result (λ name. name ≡ first_some (unknown_in_place (names_in tables.now)) places.now) }
+{
+    for place in places {
+        if let Some(name) = unknown(alloc, &tables.layers, &place.layer)? {
             return Ok(Some(name));
         }
     }

@@ -12,7 +12,7 @@ use Rattle.grid_pieces.specs.declared.piece.Piece.{Piece}
 use Rattle.grid_pieces.specs.Limits.{PieceKeeps}
 use Rattle.grid_pieces.specs.Piece.{IsPiece, piece_order}
 use Rattle.grid_pieces.specs.Laws.Orders.{then_equal}
-use Rattle.grid_pieces.specs.Laws.Permuted.{apart_permuted}
+use Rattle.list_laws.specs.Laws.Permuted.{apart_permuted}
 use Rattle.wire_pieces.specs.Pieces.{is_upright, wire_order, AreWirePieces}
 use Rattle.wire_pieces.specs.inside.Axes.{ArePiecesAlong}
 use Rattle.wire_pieces.proofs.Orders.{bool_equal, less_from, lt_differs, flip_equal}

@@ -11,7 +11,7 @@ use Rattle.std.proofs.lemmas.List.Elements.{All-map, Contains-get_or}
 use Rattle.std.proofs.lemmas.List.Sorted.{Contains-permutation, IsPermutation-sym}
 use Rattle.std.proofs.lemmas.Option.{slice_get-get_or, get_or_from_slice_get}
 use Rattle.grid_pieces.specs.declared.piece.Piece.{Piece}
-use Rattle.grid_pieces.specs.Laws.Permuted.{apart_permuted}
+use Rattle.list_laws.specs.Laws.Permuted.{apart_permuted}
 use Rattle.grid_pieces.specs.Piece.{Among}
 use Rattle.lef_tech.specs.declared.tech.Tech.{Tech}
 use Rattle.wire_chains.specs.declared.via.ViaAt.{ViaAt}

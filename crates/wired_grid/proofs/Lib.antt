@@ -1,5 +1,6 @@
 pub mod Shapes
-pub mod Kept
+pub mod Cuts
+mod Kept
 pub mod Refused
 pub mod Passed
 pub mod Whole

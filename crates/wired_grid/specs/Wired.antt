@@ -1,6 +1,6 @@
 -- The grid of wiring that another tool drew: the pieces of its segments, the stacks of its vias, and nothing that touches
 -- (LEF/DEF 5.8 Language Reference, VIAS and SPECIALNETS).
-use Rattle.std.specs.Prelude.{◌≡◌, ℕ, ℤ, Bool, true, false, cond, not, List, [], ◌∷◌, None}
+use Rattle.std.specs.Prelude.{◌≡◌, ◌<◌, ◌^◌, ℕ, ℤ, pos, ◌*ℤ◌, ◌≤ℤ◌, Bool, true, false, cond, not, List, [], ◌∷◌, All, None, length}
 use Rattle.def_design.specs.declared.record.Design.{Design}
 use Rattle.def_wiring.specs.declared.record.Wires.{Wires}
 use Rattle.grid_pieces.specs.declared.grid.DomainAt.{DomainAt}
@@ -10,6 +10,7 @@ use Rattle.grid_pieces.specs.declared.piece.StackAt.{StackAt}
 use Rattle.grid_pieces.specs.declared.touch.Touching.{Touching}
 use Rattle.grid_pieces.specs.Touch.{metal, IsTouch, IsFirstTouch}
 use Rattle.lef_tech.specs.declared.tech.Tech.{Tech}
+use Rattle.via_arrays.specs.declared.parts.CutArray.{CutArray}
 use Rattle.wire_limits.specs.declared.error.LimitError.{LimitError}
 use Rattle.wire_limits.specs.declared.error.LimitError.TheVariants as limits
 use Rattle.wire_limits.specs.Limits.{AreWithin, AreRefused}
@@ -54,6 +55,21 @@ pub record IsWiredGrid (tech : Tech) (design : Design) (wires : Wires) (grid : G
   pub pieces : AreWirePieces named.shapes grid.pieces
   pub stacks : AreStacks tech named.vias named.spots grid.pieces grid.stacks
   pub apart : NothingTouches grid.pieces grid.stacks
+
+-- A length from 1 to 2^32 units.
+abbrev pub IsLong : ℤ → Type 0
+IsLong long = (pos 1 ≤ℤ long) × (long ≤ℤ pos (2 ^ 32))
+
+-- The rule of an array stands in the technology, and the cuts of a row, side by side, are neither without length nor longer
+-- than 2^32 units; so those of a column.
+pub record ArrayStands (tech : Tech) (array : CutArray) : Type 0 where
+  pub rule : array.rule < length tech.rules
+  pub row : IsLong (pos array.columns *ℤ array.cut_x)
+  pub column : IsLong (pos array.rows *ℤ array.cut_y)
+
+-- The same of each array of a stack.
+abbrev pub ArraysStand : Tech → StackAt → Type 0
+ArraysStand tech at = All (ArrayStands tech) at.stack.arrays
 
 -- The wiring has places for its names, and a limit is passed.
 pub record IsPassed (tech : Tech) (wires : Wires) (error : LimitError) : Type 0 where

@@ -4,7 +4,7 @@ ghost use Rattle.def_design.specs.Limits.{DesignKeeps};
 ghost use Rattle.def_wiring.specs.Limits.{WiresKeep};
 ghost use Rattle.grid_pieces.specs.Limits.{PieceKeeps, StackKeeps};
 ghost use Rattle.grid_extract.specs.Extraction.{GridKeeps};
-ghost use Rattle.wired_grid.specs.Wired.{IsWiredGrid, IsWiredRefused, NothingTouches, two_in_order, two_powers, one_domain};
+ghost use Rattle.wired_grid.specs.Wired.{IsWiredGrid, IsWiredRefused, ArraysStand, NothingTouches, two_in_order, two_powers, one_domain};
 ghost use Rattle.wired_grid.specs.inside.Stages.{IsTouchRefused};
 
 use crate::error::WiredError;
@@ -36,6 +36,7 @@ pub fn wired_grid(
     ensures grid { IfOk result (IsWiredGrid tech.now design.now wires.now) }
     ensures refused { IfErr result (IsWiredRefused tech.now design.now wires.now) }
     ensures keep { IfOk result (λ grid. GridKeeps grid tech.now) }
+    ensures arrays { IfOk result (λ grid. All (ArraysStand tech.now) grid.stacks) }
 {
     let named = named(alloc, tech, wires)?;
     check_limits(alloc, tech, wires, &named)?;

@@ -24,7 +24,8 @@ use Rattle.wiring_file.specs.Fault.{Says, IsNumberFault, IsUnfit, fault_at}
 use Rattle.wiring_file.specs.Record.{is_via, is_wire, is_stacked, SaysVia, SaysWire, SaysPlace}
 use Rattle.wiring_file.specs.Format.{format}
 use Rattle.wiring_file.proofs.Digits.{Laws, not_refused}
-use Rattle.wiring_file.proofs.Spelled.{Written, tokens, past, tokens-append}
+use Rattle.wiring_file.proofs.Spelled.{past, tokens-append}
+use Rattle.written_words.specs.Spelled.{Written, tokens}
 
 -- ## no word of a unit shows a fault
 

@@ -22,6 +22,8 @@ use Rattle.number_place.specs.declared.place.NumberSign.{NumberSign}
 use Rattle.number_place.specs.declared.place.NumberSign.TheVariants.{Any, NotNegative, Positive}
 use Rattle.number_place.specs.declared.place.Refused.{Refused}
 use Rattle.number_place.specs.Place.{IsNumberAt, HasSign}
+use Rattle.written_words.specs.Laws.Digits.{number_is as number_reads, numeral_is}
+use Rattle.written_words.specs.Numbers.{whole}
 
 -- What is known of the numbers of texts.
 pub record Laws : Type 0 where
@@ -29,76 +31,16 @@ pub record Laws : Type 0 where
   pub answer : (places limit : ℕ) (text : List ℕ) (r s : Result ℤ DecimalError) → IsAnswer IsInteger places limit text r → IsAnswer IsInteger places limit text s → r ≡ s
   pub signs : (places limit : ℕ) (text : List ℕ) (v : ℤ) → IsAnswer IsInteger places limit text (Ok v) → (pos 0 ≤ℤ v) ↔ (¬ StandsFor IsInteger text IsNegative)
 
--- ## what is written of a number is read as it
-
-abs_signed : (negative : Bool) (m : ℕ) → unsigned_abs (signed negative m) ≡ m
-abs_signed false m = refl
-abs_signed true zero = refl
-abs_signed true (suc m) = refl
-
-nearest_whole : (n : ℕ) → IsNearest (n * 10 ^ 0) 1 n
-nearest_whole n = record { reached = omega arith; below = omega arith }
-
-is_within : (negative : Bool) (n limit : ℕ) → n ≤ limit → IsWithin (record { negative = negative; numerator = n; denominator = 1 }) 0 limit (signed negative n)
-is_within negative n limit most =
-    let abs : unsigned_abs (signed negative n) ≡ n = abs_signed negative n in
-    record {
-      value = record { magnitude = n; nearest = nearest_whole n; is = refl };
-      within = omega arith;
-      stays = λ e. sym abs ∙ ap unsigned_abs e;
-    }
-
-numeral_is : (negative : Bool) (digits : List ℕ) (limit : ℕ) → IsNumeral 10 digits → digits_value 10 digits ≤ limit →
-    IsAnswer IsInteger 0 limit ((if negative then codes "-" else []) ++ digits) (Ok (signed negative (digits_value 10 digits)))
-numeral_is negative digits limit form most = (
-  record { negative = negative; numerator = digits_value 10 digits; denominator = 1 },
-  record { negative = negative; digits = digits; form = form; is = refl; value = refl },
-  is_within negative (digits_value 10 digits) limit most,
-)
-
-decimal_is : (negative : Bool) (n limit : ℕ) → n ≤ limit → limit < 10 ^ 64 → IsAnswer IsInteger 0 limit ((if negative then codes "-" else []) ++ decimal n) (Ok (signed negative n))
-decimal_is negative n limit most few =
-    let d = decimal_is_IsNumeral_wide n (omega arith) in
-    let value : digits_value 10 (decimal n) ≡ n = d.1 in
-    subst (λ z. IsAnswer IsInteger 0 limit ((if negative then codes "-" else []) ++ decimal n) (Ok (signed negative z))) value
-    (numeral_is negative (decimal n) limit d.0 (omega arith))
-
-pub signed_is : (v : ℤ) (limit : ℕ) → unsigned_abs v ≤ limit → limit < 10 ^ 64 → IsAnswer IsInteger 0 limit (signed_decimal v) (Ok v)
-signed_is (pos n) limit most few = decimal_is false n limit most few
-signed_is (negsuc n) limit most few = decimal_is true (suc n) limit most few
-
-abbrev pub whole : ℕ → NumberSign → NumberPlace
-whole most sign = record { form = Integer; places = 0; limit = most; sign = sign }
-
-pub same_value : (v w : ℤ) → ◌≡◌ {A = Result ℤ DecimalError} (Ok v) (Ok w) → v ≡ w
-same_value v w h = cc
-
 pub same_number : (v w : ℤ) → ◌≡◌ {A = Result ℤ Refused} (Ok v) (Ok w) → v ≡ w
 same_number v w h = cc
 
 pub not_refused : (v : ℤ) (r : Refused) → ◌≡◌ {A = Result ℤ Refused} (Ok v) (Err r) → ⊥
 not_refused v r h = cc
 
-above : (v : ℤ) → pos 0 <ℤ v → pos 0 ≤ℤ v
-above v h = omega (arith, ints)
-
-not_zero : (v : ℤ) → pos 0 <ℤ v → v ≡ pos 0 → ⊥
-not_zero v h e = omega (arith, ints)
-
+-- a number that is written in its place is read as itself
 pub number_is : Laws → (sign : NumberSign) (v : ℤ) (limit : ℕ) → HasSign sign v → unsigned_abs v ≤ limit → limit < 10 ^ 64 →
     IsNumberAt (whole limit sign) (signed_decimal v) (Ok v)
-number_is laws Any v limit sign most few = (λ h. h, signed_is v limit most few)
-number_is laws NotNegative v limit sign most few =
-    let is : IsAnswer IsInteger 0 limit (signed_decimal v) (Ok v) = signed_is v limit most few in
-    ((laws.signs 0 limit (signed_decimal v) v is).0 sign, is)
-number_is laws Positive v limit sign most few =
-    let is : IsAnswer IsInteger 0 limit (signed_decimal v) (Ok v) = signed_is v limit most few in (
-      λ other. elim other [
-        | inl below ↦ (laws.signs 0 limit (signed_decimal v) v is).0 (above v sign) below
-        | inr none ↦ not_zero v sign (same_value v (pos 0) (laws.answer 0 limit (signed_decimal v) (Ok v) (Ok (pos 0)) is none))
-      ],
-      is,
-    )
+number_is laws sign v limit has near few = number_reads (record { answer = laws.answer; signs = laws.signs }) sign v limit has near few
 
 -- The digit 0.
 zero_digit : digit_value 48 ≡ 0

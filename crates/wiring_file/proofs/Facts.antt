@@ -17,9 +17,11 @@ use Rattle.wiring_file.specs.Rule.{is_name, is_number, is_via}
 use Rattle.wiring_file.specs.Number.{limit}
 use Rattle.wiring_file.specs.Standing.{Standing}
 use Rattle.wiring_file.specs.Fault.{IsMiscounted, IsUnfitLine, HasWidth, HasOtherShape, HasOtherEnd}
-use Rattle.wiring_file.proofs.Digits.{Laws, whole, number_is, number_word, number_bare, IsNumberWord}
+use Rattle.wiring_file.proofs.Digits.{Laws, number_is, number_word, number_bare, IsNumberWord}
+use Rattle.written_words.specs.Numbers.{whole}
 use Rattle.wiring_file.proofs.Sorts.{number_sort, name_sort}
-use Rattle.wiring_file.proofs.Spelled.{bare, IsWritten, is_bare}
+use Rattle.wiring_file.proofs.Spelled.{is_bare}
+use Rattle.written_words.specs.Spelled.{bare, IsWritten}
 
 -- ## words
 

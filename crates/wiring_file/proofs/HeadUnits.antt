@@ -16,8 +16,10 @@ use Rattle.wiring_file.specs.Rule.{is_number, version, divider, bus_bits, design
 use Rattle.wiring_file.specs.Standing.{Standing}
 use Rattle.wiring_file.specs.Fault.{IsFlat}
 use Rattle.wiring_file.specs.Written.{HeadText, HeadReads, point}
-use Rattle.wiring_file.proofs.Digits.{Laws, whole, number_is, number_word, number_bare, IsNumberWord, same_number}
-use Rattle.wiring_file.proofs.Spelled.{Written, bare, quoted, tokens, IsWritten, is_bare}
+use Rattle.wiring_file.proofs.Digits.{Laws, number_is, number_word, number_bare, IsNumberWord, same_number}
+use Rattle.written_words.specs.Numbers.{whole}
+use Rattle.wiring_file.proofs.Spelled.{is_bare}
+use Rattle.written_words.specs.Spelled.{Written, bare, quoted, tokens, IsWritten}
 use Rattle.wiring_file.proofs.Sorts.{in_turn_match, number_sort}
 use Rattle.wiring_file.proofs.Blocks.{Says_in, no_fault, nothing, joins_written}
 use Rattle.wiring_file.proofs.Facts.{IsNameWord, IsNumber, name_word, number}

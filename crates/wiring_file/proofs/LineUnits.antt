@@ -21,7 +21,8 @@ use Rattle.wiring_file.specs.Standing.{Standing}
 use Rattle.wiring_file.specs.Fault.{HasWidth, HasOtherShape, HasOtherEnd}
 use Rattle.wiring_file.specs.Written.{wire_words, place_words, WireReads, PlaceReads}
 use Rattle.wiring_file.proofs.Digits.{Laws, same_number, zero_is, no_true, no_false}
-use Rattle.wiring_file.proofs.Spelled.{Written, bare, tokens, IsWritten, is_bare, AreWritten}
+use Rattle.wiring_file.proofs.Spelled.{is_bare}
+use Rattle.written_words.specs.Spelled.{Written, bare, tokens, IsWritten, AreWritten}
 use Rattle.wiring_file.proofs.Sorts.{in_turn_match, before_match, via_sort}
 use Rattle.wiring_file.proofs.Blocks.{Says_in, no_fault, nothing, joins_written, none_written}
 use Rattle.wiring_file.proofs.Facts.{known, IsNameWord, IsNumber, name_word, number, line_fit, not_open}

@@ -17,7 +17,7 @@ use Rattle.wiring_file.specs.Standing.{Standing}
 use Rattle.wiring_file.specs.Fault.{HasCount, IsMiscounted}
 use Rattle.wiring_file.specs.Written.{NetText}
 use Rattle.wiring_file.proofs.Digits.{Laws, no_true, no_false}
-use Rattle.wiring_file.proofs.Spelled.{Written, bare, tokens, IsWritten}
+use Rattle.written_words.specs.Spelled.{Written, bare, tokens, IsWritten}
 use Rattle.wiring_file.proofs.Sorts.{in_turn_match}
 use Rattle.wiring_file.proofs.Blocks.{Says_in, no_fault, nothing, both, joins_written, none_written}
 use Rattle.wiring_file.proofs.Facts.{IsNameWord, IsNumber, counted_fit}

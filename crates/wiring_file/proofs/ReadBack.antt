@@ -21,7 +21,8 @@ use Rattle.wiring_file.specs.Record.{IsWiring}
 use Rattle.wiring_file.specs.Format.{format, ReadsWiring}
 use Rattle.wiring_file.specs.Written.{HeadText, NetText, WireReads, PlaceReads, ViaReads, NetReads, CanBeWritten, via_words, via_lines, wire_words, place_words, routed, net_words, net_lines, special_net_lines, line_of, lines, wiring_text, wiring_with}
 use Rattle.wiring_file.proofs.Digits.{Laws, no_false}
-use Rattle.wiring_file.proofs.Spelled.{Written, bare, quoted, spell, IsWritten, AllWritten, bytes_of, text_bytes, tokens, IsSeen, lines_seen}
+use Rattle.written_words.specs.Laws.Seen.{lines_seen}
+use Rattle.written_words.specs.Spelled.{Written, bare, quoted, spell, IsWritten, AllWritten, bytes_of, text_bytes, tokens, IsSeen}
 use Rattle.wiring_file.proofs.Blocks.{IsBlock, Says_in, units_of, joined-units, joins, joins_written, taken_at, nothing, both, no_fault}
 use Rattle.wiring_file.proofs.Facts.{known, name_word}
 use Rattle.wiring_file.proofs.ViaUnits.{bares, standing_at, via_facts, via_written, AllVias, vias_units, vias_said, count_number}

@@ -18,7 +18,7 @@ use Rattle.wiring_file.specs.Standing.{Standing}
 use Rattle.wiring_file.specs.Fault.{HasCount}
 use Rattle.wiring_file.specs.Written.{via_words, ViaReads}
 use Rattle.wiring_file.proofs.Digits.{Laws, same_number, no_true}
-use Rattle.wiring_file.proofs.Spelled.{Written, bare, tokens, AreWritten}
+use Rattle.written_words.specs.Spelled.{Written, bare, tokens, AreWritten}
 use Rattle.wiring_file.proofs.Sorts.{in_turn_match}
 use Rattle.wiring_file.proofs.Blocks.{Says_in, no_fault, nothing, joins_written, none_written}
 use Rattle.wiring_file.proofs.Facts.{known, IsNameWord, IsNumber, name_word, number, counted_fit}

@@ -103,7 +103,7 @@ head_reads design name h = record {
 abbrev IsGood : Tech → CutArray → Type 0
 IsGood tech a = ArrayFits tech a × ArrayReads a
 
-few_is : (tech : Tech) → TechKeeps tech → (a : CutArray) → IsGood tech a → IsFew (via_of a)
+pub few_is : (tech : Tech) → TechKeeps tech → (a : CutArray) → IsGood tech a → IsFew (via_of a)
 few_is tech keeps a h =
     let rule : a.rule < length tech.rules = h.0.rule in
     let few : length tech.rules < 2 ^ 32 = keeps.few_rules in
@@ -149,10 +149,10 @@ module _ (P : CutArray → Type 0) where
   fold_keeps (a ∷ arrays) es all h = fold_keeps arrays (with_array es a) (All-tail P a arrays all) (insert_keeps (via_of a) a es (All-head P a arrays all) h)
 
   -- What all arrays have, all vias have.
-  vias_keep : (arrays : List CutArray) → All P arrays → All P (vias_of arrays)
+  pub vias_keep : (arrays : List CutArray) → All P arrays → All P (vias_of arrays)
   vias_keep arrays all = fold_keeps arrays [] all (All-nil P)
 
-all_flat : {X Y : Type 0} (P : Y → Type 0) (f : X → List Y) (xs : List X) → All (λ x. All P (f x)) xs → All P (flat_map f xs)
+pub all_flat : {X Y : Type 0} (P : Y → Type 0) (f : X → List Y) (xs : List X) → All (λ x. All P (f x)) xs → All P (flat_map f xs)
 all_flat P f [] h = All-nil P
 all_flat {X} P f (x ∷ xs) h =
     let Q : X → Type 0 = λ x. All P (f x) in

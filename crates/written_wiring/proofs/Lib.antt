@@ -3,3 +3,6 @@ pub mod Texts
 pub mod Nets
 pub mod Whole
 pub mod Fitting
+pub mod ViaNames
+pub mod WireTexts
+pub mod WireFits

@@ -1,2 +1,4 @@
 pub mod Wiring
 pub mod Fits
+pub mod Wires
+pub mod WiresFit

@@ -1,6 +1,6 @@
 -- What the reader needs of options, inside this crate.
 use Rattle.command_words.specs.declared.command.Command.{Command}
-use Rattle.command_words.specs.declared.command.Command.TheVariants.{Build, Solve, Step, Generate}
+use Rattle.command_words.specs.declared.command.Command.TheVariants.{Build, Solve, Step, Signoff, Generate}
 use Rattle.std.specs.Prelude.{◌≡◌, [], ◌∷◌, ◌≢◌, ℕ, ◌<◌, List, length, Contains, drop, slice_index, map}
 use Rattle.command_words.specs.Setting.{Sets}
 use Rattle.std.specs.Borrow.{Bor}
@@ -28,6 +28,10 @@ pub record IsFirst (options words : List (List ℕ)) (setting : List ℕ × List
 abbrev pub IsBuildOf : List (List ℕ) → Command → Type 0
 IsBuildOf values (Build a b c d e f g h i) = values ≡ a ∷ b ∷ c ∷ d ∷ e ∷ f ∷ g ∷ h ∷ i ∷ []
 IsBuildOf values command = ⊥
+
+abbrev pub IsSignoffOf : List (List ℕ) → Command → Type 0
+IsSignoffOf values (Signoff a b c d e f g h) = values ≡ a ∷ b ∷ c ∷ d ∷ e ∷ f ∷ g ∷ h ∷ []
+IsSignoffOf values command = ⊥
 
 abbrev pub IsSolveOf : List (List ℕ) → Command → Type 0
 IsSolveOf values (Solve a b c) = values ≡ a ∷ b ∷ c ∷ []

@@ -5,7 +5,7 @@ use Rattle.std.specs.declared.cmp.Ordering.{Ordering}
 use Rattle.geom_rect.specs.declared.direction.Axis.TheVariants.{X}
 use Rattle.geom_rect.specs.declared.drawn.Shape.TheVariants.{FollowPin}
 use Rattle.grid_pieces.specs.declared.piece.Piece.{Piece}
-use Rattle.grid_taps.specs.declared.index.Entry.{Entry}
+use Rattle.rect_index.specs.declared.entry.Entry.{Entry}
 use Rattle.grid_taps.specs.declared.rail.Rail.{Rail}
 use Rattle.grid_taps.specs.Naming.{At}
 
@@ -20,9 +20,9 @@ rail_of number p =
     record { net = p.net; layer = p.layer; centre = p.centre; from = p.from; to = p.to; number = number }
 
 -- Its centre line.
-abbrev pub rail_entry : Rail → Entry
+abbrev pub rail_entry : Rail → Entry ℕ
 rail_entry r =
-    record { group = r.net; rect = record { x1 = r.from; y1 = r.centre; x2 = r.to; y2 = r.centre }; number = r.number }
+    record { group = r.net; rect = record { x1 = r.from; y1 = r.centre; x2 = r.to; y2 = r.centre }; item = r.number }
 
 abbrev pub IsDrawnRail : Piece → Type 0
 IsDrawnRail p = (p.shape ≡ FollowPin) × (p.axis ≡ X)
@@ -34,7 +34,7 @@ pub record AreRailsOf (pieces : List Piece) (count : ℕ) (rails : List Rail) : 
       → Contains rails (rail_of number p)
 
 -- The entries of all rails, in order.
-pub record AreRailEntries (pieces : List Piece) (entries : List Entry) : Type 0 where
+pub record AreRailEntries (pieces : List Piece) (entries : List (Entry ℕ)) : Type 0 where
   pub rails : List Rail
   pub each : All (λ (r : Rail). (p : Piece) × At pieces r.number p × IsDrawnRail p × (r ≡ rail_of r.number p)) rails
   pub every : (number : ℕ) (p : Piece) → At pieces number p → IsDrawnRail p → Contains rails (rail_of number p)

@@ -5,7 +5,7 @@ use Rattle.bias_file.specs.declared.record.Supply.{Supply}
 use Rattle.grid_pieces.specs.declared.piece.Piece.{Piece}
 use Rattle.grid_pieces.specs.Line.{piece_rect}
 use Rattle.grid_pieces.specs.Piece.{Among}
-use Rattle.grid_taps.specs.declared.index.Entry.{Entry}
+use Rattle.rect_index.specs.declared.entry.Entry.{Entry}
 use Rattle.grid_taps.specs.Naming.{At}
 
 -- The lesser of two numbers that may be there.
@@ -42,10 +42,10 @@ IsVolts volts net o = o ≡ slice_index_or volts net None
 
 -- ## pieces in an index
 
-abbrev pub piece_entry : ℕ → Piece → Entry
-piece_entry number piece = record { group = piece.net; rect = piece_rect piece; number = number }
+abbrev pub piece_entry : ℕ → Piece → Entry ℕ
+piece_entry number piece = record { group = piece.net; rect = piece_rect piece; item = number }
 
 -- An entry for each piece, with its number.
-pub record ArePieceEntries (pieces : List Piece) (entries : List Entry) : Type 0 where
+pub record ArePieceEntries (pieces : List Piece) (entries : List (Entry ℕ)) : Type 0 where
   pub as_many : length entries ≡ length pieces
-  pub each : (k : ℕ) (piece : Piece) (d : Entry) → At pieces k piece → slice_index_or entries k d ≡ piece_entry k piece
+  pub each : (k : ℕ) (piece : Piece) (d : Entry ℕ) → At pieces k piece → slice_index_or entries k d ≡ piece_entry k piece

@@ -23,6 +23,11 @@ returns-then-eq-4-clause-command c =
     let some : 0 < length c.args.words.now = search rules in
     subst (λ z. IfOk c.generate.result (IsCommand z)) (named_first c.args.words.now _ (codes "generate") some (sym c.if-eq-4.ensures)) c.generate.ensures.command
 
+pub returns-then-eq-6-clause-command : goal.returns-then-eq-6-clause-command
+returns-then-eq-6-clause-command c =
+    let some : 0 < length c.args.words.now = search rules in
+    subst (λ z. IfOk c.signoff.result (IsCommand z)) (named_first c.args.words.now _ (codes "signoff") some (sym c.if-eq-6.ensures)) c.signoff.ensures.command
+
 pub returns-then-eq-5-clause-command : goal.returns-then-eq-5-clause-command
 returns-then-eq-5-clause-command c =
     let some : 0 < length c.args.words.now = search rules in

@@ -1,6 +1,6 @@
 use Rattle.std.proofs.Common.{◌≡◌, ◌↔◌, ◌∙◌, map, take, length, Contains, ap, subst, arith}
 use Rattle.std.proofs.Math.Seq.{take-length}
-use Rattle.lef_cells.proofs.Joining.{one_more}
+use Rattle.lef_cells.specs.Laws.Joining.{one_more}
 use Rattle.lef_cells.proofs.join.names_of.Goals as goal
 
 pub loop-entry-preserved : goal.loop-entry-preserved

@@ -1,8 +1,8 @@
 use Rattle.std.proofs.Common.{not, rules, ◌∙◌}
 use Rattle.std.proofs.lemmas.Fn.{filter_same}
-use Rattle.lef_cells.specs.Join.{is_among}
+use Rattle.list_laws.specs.Among.{is_among}
 use Rattle.macro_blocks.specs.Record.{name_of}
-use Rattle.macro_blocks.proofs.Joining.{same_without}
+use Rattle.lef_cells.specs.Laws.Joining.{same_without}
 use Rattle.macro_blocks.proofs.join.keep_new.Goals as goal
 
 pub returns : goal.returns

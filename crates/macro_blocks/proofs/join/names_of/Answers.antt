@@ -1,7 +1,7 @@
 use Rattle.std.proofs.Common.{◌≡◌, ◌↔◌, ◌∙◌, map, take, length, Contains, ap, subst, arith}
 use Rattle.std.proofs.Math.Seq.{take-length}
 use Rattle.macro_blocks.specs.Record.{name_of}
-use Rattle.macro_blocks.proofs.Joining.{one_more}
+use Rattle.lef_cells.specs.Laws.Joining.{one_more}
 use Rattle.macro_blocks.proofs.join.names_of.Goals as goal
 
 pub loop-cell-preserved : goal.loop-cell-preserved

@@ -4,8 +4,9 @@ use Rattle.command_words.specs.declared.command.Command.{Command}
 use Rattle.command_words.specs.Words.{IsCommand, seconds}
 use Rattle.pdn_signoff.specs.declared.design_files.DesignFiles.{DesignFiles}
 use Rattle.pdn_signoff.specs.declared.build_files.BuildFiles.{BuildFiles}
+use Rattle.pdn_signoff.specs.declared.signoff_files.SignoffFiles.{SignoffFiles}
 use Rattle.pdn_signoff.specs.declared.step_files.StepFiles.{StepFiles}
-use Rattle.pdn_signoff.specs.Words.{IsGenerate, IsBuild, IsStep}
+use Rattle.pdn_signoff.specs.Words.{IsGenerate, IsBuild, IsStep, IsSignoff}
 use Rattle.pdn_signoff.proofs.command.carry_out.Goals as goal
 
 pub returns-in-Generate-clause-cause : goal.returns-in-Generate-clause-cause
@@ -27,7 +28,14 @@ returns-in-Step-clause-cause g c words is =
     let w = c.in-Step in
     let f : StepFiles = record { netlist = w.netlist; waves = w.waves; time = w.time; steps = w.steps; certificate = w.certificate; report = w.report } in
     let named : IsStep words f = subst (λ (command : Command). IsCommand words command) w.is is in
-    inr (inr (inr (inr (inr (f, named, c.step.ensures.steps)))))
+    inr (inr (inr (inr (inr (inl (f, named, c.step.ensures.steps))))))
+
+pub returns-in-Signoff-clause-cause : goal.returns-in-Signoff-clause-cause
+returns-in-Signoff-clause-cause g c words is =
+    let w = c.in-Signoff in
+    let f : SignoffFiles = record { lef = w.lef; cells = w.cells; def = w.def; wires = w.wires; bias = w.bias; netlist = w.netlist; certificate = w.certificate; report = w.report } in
+    let named : IsSignoff words f = subst (λ (command : Command). IsCommand words command) w.is is in
+    inr (inr (inr (inr (inr (inr (f, named, c.signoff.ensures.signs))))))
 
 pub step-requires-clause-time : goal.step-requires-clause-time
 step-requires-clause-time g c =

@@ -3,6 +3,8 @@ use Rattle.pdn_signoff.proofs.Causes.{AreLaws, check_writes_nothing, ran_other, 
 use Rattle.pdn_signoff.proofs.Completing.{among_built, built, accepted_built, asked_built, completed}
 use Rattle.pdn_signoff.proofs.Making.{among, generated, made}
 use Rattle.pdn_signoff.proofs.Signing.{AreSolvingLaws, others, signed, accepted, asked, solved}
+use Rattle.pdn_signoff.proofs.SignoffOfBuild.{netlist_of_build}
+use Rattle.pdn_signoff.proofs.SignoffRuns.{among_signed, signed_off, accepted_signed, asked_signed, completed_signed}
 use Rattle.pdn_signoff.proofs.Stepping.{among_stepped, stepped, asked_stepped, completed_steps}
 use Rattle.pdn_signoff.proofs.command.run.Goals as goal
 
@@ -34,7 +36,7 @@ pub returns-clause-usage : goal.returns-clause-usage
 returns-clause-usage g c =
     let s : SolverThen = record { told = g.V.Solver.told c.args.solver.now; proposals = g.V.Solver.proposals c.args.solver.now } in
     let s' : SolverThen = record { told = g.V.Solver.told c.run_command.new.solver; proposals = g.V.Solver.proposals c.run_command.new.solver } in
-    usage c.netlists_are_stepped_alike.ensures.sort _ s s' _ _ _ _ _ c.run_command.ensures.answer
+    usage c.netlists_are_stepped_alike.ensures.sort c.answers_to_wiring.ensures _ s s' _ _ _ _ _ c.run_command.ensures.answer
 
 pub returns-clause-refused : goal.returns-clause-refused
 returns-clause-refused g c =
@@ -270,3 +272,75 @@ returns-clause-step_completed g c =
       one_command = c.words_have_one_command.ensures;
     } in
     completed_steps laws c.netlists_are_stepped_alike.ensures.sort _ s s' _ _ _ _ _ c.run_command.ensures.answer
+
+pub returns-clause-signoff_outputs : goal.returns-clause-signoff_outputs
+returns-clause-signoff_outputs g c =
+    let s : SolverThen = record { told = g.V.Solver.told c.args.solver.now; proposals = g.V.Solver.proposals c.args.solver.now } in
+    let s' : SolverThen = record { told = g.V.Solver.told c.run_command.new.solver; proposals = g.V.Solver.proposals c.run_command.new.solver } in
+    let laws : AreLaws = record {
+      one = c.texts_are_judged_once.ensures.one;
+      tested = c.texts_are_judged_once.ensures.tested;
+      bounded = c.texts_are_judged_once.ensures.bounded;
+      one_command = c.words_have_one_command.ensures;
+    } in
+    among_signed laws c.answers_to_wiring.ensures _ s s' _ _ _ _ _ c.run_command.ensures.answer
+
+pub returns-clause-signed_off : goal.returns-clause-signed_off
+returns-clause-signed_off g c =
+    let s : SolverThen = record { told = g.V.Solver.told c.args.solver.now; proposals = g.V.Solver.proposals c.args.solver.now } in
+    let s' : SolverThen = record { told = g.V.Solver.told c.run_command.new.solver; proposals = g.V.Solver.proposals c.run_command.new.solver } in
+    let laws : AreLaws = record {
+      one = c.texts_are_judged_once.ensures.one;
+      tested = c.texts_are_judged_once.ensures.tested;
+      bounded = c.texts_are_judged_once.ensures.bounded;
+      one_command = c.words_have_one_command.ensures;
+    } in
+    signed_off laws c.answers_to_wiring.ensures _ s s' _ _ _ _ _ c.run_command.ensures.answer
+
+pub returns-clause-signoff_accepted : goal.returns-clause-signoff_accepted
+returns-clause-signoff_accepted g c =
+    let s : SolverThen = record { told = g.V.Solver.told c.args.solver.now; proposals = g.V.Solver.proposals c.args.solver.now } in
+    let s' : SolverThen = record { told = g.V.Solver.told c.run_command.new.solver; proposals = g.V.Solver.proposals c.run_command.new.solver } in
+    let laws : AreLaws = record {
+      one = c.texts_are_judged_once.ensures.one;
+      tested = c.texts_are_judged_once.ensures.tested;
+      bounded = c.texts_are_judged_once.ensures.bounded;
+      one_command = c.words_have_one_command.ensures;
+    } in
+    accepted_signed laws c.answers_to_wiring.ensures _ s s' _ _ _ _ _ c.run_command.ensures.answer
+
+pub returns-clause-signoff_of_build : goal.returns-clause-signoff_of_build
+returns-clause-signoff_of_build g c names is low =
+    let s : SolverThen = record { told = g.V.Solver.told c.args.solver.now; proposals = g.V.Solver.proposals c.args.solver.now } in
+    let s' : SolverThen = record { told = g.V.Solver.told c.run_command.new.solver; proposals = g.V.Solver.proposals c.run_command.new.solver } in
+    let laws : AreLaws = record {
+      one = c.texts_are_judged_once.ensures.one;
+      tested = c.texts_are_judged_once.ensures.tested;
+      bounded = c.texts_are_judged_once.ensures.bounded;
+      one_command = c.words_have_one_command.ensures;
+    } in
+    netlist_of_build c.built_wiring_is_signed_off_alike.ensures.netlist _ names _ _ _ (signed_off laws c.answers_to_wiring.ensures _ s s' _ _ _ _ _ c.run_command.ensures.answer names is low)
+
+pub returns-clause-signoff_asked : goal.returns-clause-signoff_asked
+returns-clause-signoff_asked g c =
+    let s : SolverThen = record { told = g.V.Solver.told c.args.solver.now; proposals = g.V.Solver.proposals c.args.solver.now } in
+    let s' : SolverThen = record { told = g.V.Solver.told c.run_command.new.solver; proposals = g.V.Solver.proposals c.run_command.new.solver } in
+    let laws : AreLaws = record {
+      one = c.texts_are_judged_once.ensures.one;
+      tested = c.texts_are_judged_once.ensures.tested;
+      bounded = c.texts_are_judged_once.ensures.bounded;
+      one_command = c.words_have_one_command.ensures;
+    } in
+    asked_signed laws c.answers_to_wiring.ensures _ s s' _ _ _ _ _ c.run_command.ensures.answer
+
+pub returns-clause-signoff_completed : goal.returns-clause-signoff_completed
+returns-clause-signoff_completed g c =
+    let s : SolverThen = record { told = g.V.Solver.told c.args.solver.now; proposals = g.V.Solver.proposals c.args.solver.now } in
+    let s' : SolverThen = record { told = g.V.Solver.told c.run_command.new.solver; proposals = g.V.Solver.proposals c.run_command.new.solver } in
+    let laws : AreLaws = record {
+      one = c.texts_are_judged_once.ensures.one;
+      tested = c.texts_are_judged_once.ensures.tested;
+      bounded = c.texts_are_judged_once.ensures.bounded;
+      one_command = c.words_have_one_command.ensures;
+    } in
+    completed_signed laws c.answers_to_wiring.ensures _ s s' _ _ _ _ _ c.run_command.ensures.answer

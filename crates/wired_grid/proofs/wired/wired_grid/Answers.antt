@@ -6,8 +6,9 @@ use Rattle.grid_pieces.specs.Limits.{DrawnKeeps, PieceKeeps, StackKeeps}
 use Rattle.wire_pieces.specs.Pieces.{AreWirePieces}
 use Rattle.wire_stacks.specs.Stacks.{AreStacks, AreOff}
 use Rattle.wired_grid.specs.Errors.{of_name, of_limit, of_end}
-use Rattle.wired_grid.specs.Wired.{IsWiredRefused, NothingTouches}
+use Rattle.wired_grid.specs.Wired.{IsWiredRefused, NothingTouches, ArraysStand}
 use Rattle.wired_grid.specs.inside.Stages.{IsTouchRefused}
+use Rattle.wired_grid.proofs.Cuts.{arrays_stand}
 use Rattle.wired_grid.proofs.Kept.{upright}
 use Rattle.wired_grid.proofs.Passed.{err_on}
 use Rattle.wired_grid.proofs.Refused.{name_refused, limit_refused, end_refused, touch_refused}
@@ -120,3 +121,14 @@ returns-clause-keep c =
     let few_stacks : length stacks < 2 ^ 32 = omega (arith, c.len-2.ensures, c.in_ok-stacks.stacks.ok.0, c.in_ok-count.ensures.stacks) in
     grid_keeps tech design wires named pieces stacks grid c.requires.design c.in_ok-named.ensures.named c.in_ok-named.ensures.keep c.in_ok-check_limits.ensures.within pieces_are
     c.in_ok-pieces.ensures.keep c.in_ok-stacks.ensures.stand few_pieces few_stacks parts
+
+pub returns-clause-arrays : goal.returns-clause-arrays
+returns-clause-arrays c =
+    let tech = c.args.tech.now in
+    let wires = c.args.wires.now in
+    let named = c.in_ok-named.named in
+    let pieces = c.in_ok-pieces.pieces.items in
+    let stacks = c.in_ok-stacks.stacks.items in
+    let stacks_are : AreStacks tech named.vias named.spots pieces stacks = subst (λ (ps : List Piece). AreStacks tech named.vias named.spots ps stacks) c.deref.ensures.value c.in_ok-stacks.ensures.stacks in
+    subst (All (ArraysStand tech)) (sym c.in_ok-grid.ensures.stacks)
+    (arrays_stand tech wires named pieces stacks c.requires.wires c.in_ok-named.ensures.named c.in_ok-named.ensures.keep c.in_ok-check_limits.ensures.within.sizes stacks_are)

@@ -3,7 +3,8 @@ use Rattle.def_wiring.specs.declared.act.Act.{Act}
 use Rattle.def_wiring.specs.declared.act.Act.TheVariants as acts
 use Rattle.def_wiring.specs.inside.Held.{Tells, Leads}
 use Rattle.def_wiring.specs.declared.held.Sections.{Sections}
-use Rattle.def_wiring.proofs.Taking.{took, same_act}
+use Rattle.def_wiring.specs.Laws.Acts.{same_act}
+use Rattle.def_wiring.proofs.Taking.{took}
 use Rattle.reading.specs.Word.{token}
 use Rattle.def_wiring.proofs.held.Sections.take_act.Goals as goal
 

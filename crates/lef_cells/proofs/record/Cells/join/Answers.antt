@@ -1,7 +1,8 @@
 use Rattle.lef_cells.specs.declared.record.MacroCell.{MacroCell}
 use Rattle.lef_cells.specs.declared.record.Site.{Site}
 use Rattle.lef_cells.specs.Limits.{SiteKeeps, MacroKeeps}
-use Rattle.lef_cells.proofs.Joining.{joined_all, joined_distinct}
+use Rattle.lef_cells.specs.Laws.Joining.{joined_all}
+use Rattle.lef_cells.proofs.Joining.{joined_distinct}
 use Rattle.lef_cells.proofs.record.Cells.join.Goals as goal
 
 pub returns-clause-keeps : goal.returns-clause-keeps

@@ -1,6 +1,6 @@
 use Rattle.macro_blocks.specs.Limits.{MacroKeeps}
 use Rattle.macro_blocks.specs.Record.{name_of}
-use Rattle.macro_blocks.proofs.Joining.{joined_all}
+use Rattle.lef_cells.specs.Laws.Joining.{joined_all}
 use Rattle.macro_blocks.proofs.record.Blocks.join.Goals as goal
 
 pub returns-clause-keeps : goal.returns-clause-keeps

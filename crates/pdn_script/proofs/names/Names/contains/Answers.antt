@@ -1,6 +1,6 @@
 use Rattle.std.proofs.Common.{◌∙◌, ap}
-use Rattle.pdn_script.specs.Names.{is_among}
-use Rattle.pdn_script.proofs.Standing.{told}
+use Rattle.list_laws.specs.Among.{is_among}
+use Rattle.list_laws.specs.Laws.Among.{told}
 use Rattle.pdn_script.proofs.names.Names.contains.Goals as goal
 
 pub returns : goal.returns

@@ -1,0 +1,4 @@
+pub mod Bounds
+pub mod Extents
+pub mod Steps
+pub mod Keeping

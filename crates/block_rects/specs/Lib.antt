@@ -1,0 +1,4 @@
+pub mod Layers
+pub mod Placed
+pub mod Limits
+pub mod inside

@@ -1,0 +1,4 @@
+pub mod Blocks
+pub mod Straps
+pub mod Rings
+pub mod inside

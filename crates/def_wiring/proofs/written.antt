@@ -1,0 +1,9 @@
+pub mod Words
+pub mod Steps
+pub mod NetSteps
+pub mod LineSteps
+pub mod NetEntries
+pub mod ViaSteps
+pub mod HeadSteps
+pub mod Whole
+pub mod Only

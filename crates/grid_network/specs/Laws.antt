@@ -1,0 +1,4 @@
+-- Lemmas that crates above use.
+pub mod Keys
+pub mod Unique
+pub mod OneList

@@ -1,0 +1,57 @@
+//! From the grid to its texts.
+ghost use Rattle.std.specs.Prelude.{◌≡◌, IsOk, IfOk, IfErr};
+ghost use Rattle.outside.specs.Counts.{Rose};
+ghost use Rattle.grid_signing.specs.Basis.{base_of, BaseKeeps};
+ghost use Rattle.grid_signing.specs.Checked.{Signs};
+ghost use Rattle.grid_signing.specs.Refusal.{IsUnsigned};
+ghost use Rattle.grid_signing.specs.Signing.{CanBeSigned};
+
+use crate::basis::Basis;
+use crate::network::network_of;
+use crate::signed::SignedGrid;
+use crate::signing::sign_network;
+use answers::Answer;
+use drawn_grids::{each_node_has_a_name, limits_are_of_the_network};
+use grid_limits::limits;
+use grid_net::Solver;
+use grid_pieces::Grid;
+use network_texts::extracted_networks_can_be_written;
+use std::alloc::Global;
+
+/// Signs off a grid over a placed design with what the solver proposes.
+///
+/// The order is: the network of the grid is extracted, the supply is tested, the network is certified, and the texts are
+/// made. Certification always succeeds, whatever the solver proposes.
+/// Error: the answer to a grid that has no network, to a node without supply, or to want of memory.
+pub fn sign_grid<V: Solver>(
+    alloc: Global,
+    basis: &Basis,
+    grid: &Grid,
+    solver: &mut V,
+) -> Result<SignedGrid, Answer>
+    requires keep { BaseKeeps (base_of basis.now) }
+    requires grid { CanBeSigned (base_of basis.now) grid.now }
+    ensures signed { IfOk result (Signs (V.told solver.old) (base_of basis.now) grid.now) }
+    ensures refused { IfErr result (IsUnsigned (base_of basis.now) grid.now) }
+    // The solver was asked, and what it tells stays.
+    ensures asked { IsOk result → Rose (V.proposals solver.old) (V.proposals solver.new) }
+    ensures told { V.told solver.new ≡ V.told solver.old }
+{
+    each_node_has_a_name();
+    limits_are_of_the_network();
+    extracted_networks_can_be_written();
+    // More nets than 32 bits can number are want of memory.
+    if grid.nets.as_slice().len() > u32::MAX as usize {
+        return Err(Answer::Want);
+    }
+    let extracted = match network_of(alloc, basis, grid) {
+        Ok(extracted) => extracted,
+        Err(answer) => return Err(answer),
+    };
+    let keys = extracted.keys.as_slice();
+    let branches = extracted.branches.as_slice();
+    let Ok(limits) = limits(alloc, basis.tech, grid, keys, branches, basis.bias) else {
+        return Err(Answer::Want);
+    };
+    sign_network(alloc, grid, extracted, &limits, solver)
+}

@@ -1,0 +1,2 @@
+pub mod Metal
+pub mod Keeping

@@ -1,0 +1,4 @@
+pub mod Cuts
+pub mod Placed
+pub mod Limits
+pub mod inside

@@ -1,0 +1,10 @@
+pub mod Places
+pub mod ViaNames
+pub mod Vias
+pub mod Found
+pub mod Shapes
+pub mod Split
+pub mod Spots
+pub mod Two
+pub mod Whole
+pub mod Premises

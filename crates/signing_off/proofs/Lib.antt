@@ -1,0 +1,5 @@
+mod Naming
+mod Reading
+mod Refusing
+mod Signs
+mod Sorts

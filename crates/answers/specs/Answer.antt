@@ -9,7 +9,7 @@ use Rattle.grid_net.specs.declared.error.Quantity.{Quantity}
 use Rattle.grid_net.specs.declared.error.Quantity.TheVariants.{Nodes, Resistors, Resistance, Voltage, Loads}
 use Rattle.answers.specs.declared.built.Built.{Built as Numbers}
 use Rattle.answers.specs.declared.kind.TextKind.{TextKind}
-use Rattle.answers.specs.declared.kind.TextKind.TheVariants.{Syntax, OutOfProfileCard, FloatingSource, Number, OutOfRange, WrongNode, BadString, Substitution, Twice, UnknownLayer, BadTable, Polygon, RowForm, AlreadyRouted, MissingDesign, MissingUnits, MissingDieArea, AfterPdngen, UnknownCommand, OutOfProfile, UnknownOption, UnknownGrid, UnknownDomain, MissingOption, NetUse, Falling, UnknownNode, UnknownVia, WireForm, ViaForm}
+use Rattle.answers.specs.declared.kind.TextKind.TheVariants.{Syntax, OutOfProfileCard, FloatingSource, Number, OutOfRange, WrongNode, BadString, Substitution, Twice, UnknownLayer, BadTable, Polygon, RowForm, AlreadyRouted, MissingDesign, MissingUnits, MissingDieArea, AfterPdngen, UnknownCommand, OutOfProfile, UnknownOption, UnknownGrid, UnknownDomain, MissingOption, NetUse, Falling, UnknownNode, UnknownVia, WireForm, ViaForm, Origin}
 use Rattle.answers.specs.declared.answer.Answer.{Answer}
 use Rattle.answers.specs.declared.answer.Answer.TheVariants.{Usage, Want, ReadFault, WriteFault, TooLong, Refused, NoGrid, Range, TooManySteps, PadConflict, FloatingCapacitor, Unsupplied, Built, SignedOff, Generated, Solved, Stepped, Certified, NotCertified}
 
@@ -64,6 +64,7 @@ kind_words UnknownNode = codes "UnknownNode"
 kind_words UnknownVia = codes "UnknownVia"
 kind_words WireForm = codes "WireForm"
 kind_words ViaForm = codes "ViaForm"
+kind_words Origin = codes "Origin"
 
 -- A count and the words after it.
 abbrev pub counted : ℕ → List ℕ → List ℕ

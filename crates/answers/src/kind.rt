@@ -69,6 +69,8 @@ pub enum TextKind {
     WireForm,
     /// A via of wiring is turned or repeated, or has an origin, an offset or a pattern.
     ViaForm,
+    /// The first ORIGIN of a macro has a number other than 0 here.
+    Origin,
 }
 
 impl TextKind {
@@ -109,6 +111,7 @@ impl TextKind {
             TextKind::UnknownVia => b"UnknownVia",
             TextKind::WireForm => b"WireForm",
             TextKind::ViaForm => b"ViaForm",
+            TextKind::Origin => b"Origin",
         }
     }
 }

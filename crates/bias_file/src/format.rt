@@ -34,6 +34,16 @@ impl<'a> Grammar<'a> for BiasFormat {
 
     ghost holds = { λ bias held units. Holds units held };
 
+    fn fault(&self, said: &Held<'a>, unit: &[Word<'a>]) -> Option<Found<BiasKind>> {
+        match unit {
+            [first, name] => found_at(1, name_fault(&said.lists, sort_of(first), name.text)),
+            [first, _, value] => found_at(2, value_fault(sort_of(first), value.text)),
+            [first, _, third, fourth] => found_at(3, fourth_fault(sort_of(first), third, fourth)),
+            [first, _, _, _, fifth] => found_at(4, fifth_fault(sort_of(first), fifth.text)),
+            _ => None,
+        }
+    }
+
     fn sort(&self, _said: &Held<'a>, word: &Word<'a>) -> Sort {
         sort_of(word)
     }
@@ -44,16 +54,6 @@ impl<'a> Grammar<'a> for BiasFormat {
 
     fn rule(section: Section) -> Rule<'a, Sort> {
         rule(section)
-    }
-
-    fn fault(&self, said: &Held<'a>, unit: &[Word<'a>]) -> Option<Found<BiasKind>> {
-        match unit {
-            [first, name] => found_at(1, name_fault(&said.lists, sort_of(first), name.text)),
-            [first, _, value] => found_at(2, value_fault(sort_of(first), value.text)),
-            [first, _, third, fourth] => found_at(3, fourth_fault(sort_of(first), third, fourth)),
-            [first, _, _, _, fifth] => found_at(4, fifth_fault(sort_of(first), fifth.text)),
-            _ => None,
-        }
     }
 
     fn ends(&self, _said: &Held<'a>) -> bool {

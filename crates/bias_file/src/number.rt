@@ -7,12 +7,6 @@ use number_place::{NumberForm, NumberPlace, NumberSign};
 /// The greatest potential, in yV: 10 V.
 pub const VOLTS_LIMIT: u128 = 10_000_000_000_000_000_000_000_000;
 
-/// The greatest current, in fA: 1000 A.
-pub const AMPERES_LIMIT: u128 = 1_000_000_000_000_000_000;
-
-/// The farthest place, in pm: 100 mm.
-pub const PLACE_LIMIT: u128 = 100_000_000_000;
-
 /// Volts in yV, with a scale or none.
 pub(crate) const VOLTS: NumberPlace = NumberPlace {
     form: NumberForm::Scaled,
@@ -29,6 +23,9 @@ pub(crate) const DROP_VOLTS: NumberPlace = NumberPlace {
     sign: NumberSign::NotNegative,
 };
 
+/// The greatest current, in fA: 1000 A.
+pub const AMPERES_LIMIT: u128 = 1_000_000_000_000_000_000;
+
 /// Amperes in fA, with a scale or none.
 pub(crate) const AMPERES: NumberPlace = NumberPlace {
     form: NumberForm::Scaled,
@@ -36,6 +33,9 @@ pub(crate) const AMPERES: NumberPlace = NumberPlace {
     limit: AMPERES_LIMIT,
     sign: NumberSign::NotNegative,
 };
+
+/// The farthest place, in pm: 100 mm.
+pub const PLACE_LIMIT: u128 = 100_000_000_000;
 
 /// Micrometres in pm, without a scale.
 pub(crate) const MICROMETRES: NumberPlace = NumberPlace {

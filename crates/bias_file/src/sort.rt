@@ -51,14 +51,8 @@ fn sort_of_text(text: &[u8]) -> Sort
         Sort::Other
     };
     keyword_or!(text;
-        b"supply" => Sort::Supply,
-        b"droplimit" => Sort::DropLimit,
-        b"pad" => Sort::Pad,
-        b"cell" => Sort::Cell,
-        b"instance" => Sort::Instance,
-        b";" => Sort::Mark,
-        b"(" => Sort::Mark,
-        b")" => Sort::Mark;
+        b"supply" => Sort::Supply, b"droplimit" => Sort::DropLimit, b"pad" => Sort::Pad, b"cell" => Sort::Cell,
+        b"instance" => Sort::Instance, b";" => Sort::Mark, b"(" => Sort::Mark, b")" => Sort::Mark;
         other)
 }
 

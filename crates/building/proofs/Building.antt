@@ -1,13 +1,12 @@
 -- What is built of records is built of the texts that have them.
-use Rattle.std.proofs.Common.{◌≡◌, ℕ, ℤ, List, Option, refl, sym, ap, subst, ◌∙◌}
-use Rattle.answers.specs.declared.built.Built.{Built as Numbers}
+use Rattle.std.proofs.Common.{ℤ, List, Option, refl, sym, subst}
 use Rattle.building.specs.declared.outputs.Outputs.{Outputs}
 use Rattle.building.specs.declared.records.Records.{Records}
 use Rattle.building.specs.Building.{Design, IsGridOf, GridStands, IsDesignOf, AreOutputsOf, base_of}
 use Rattle.building.specs.Checked.{PassesCheck}
 use Rattle.building.specs.Inputs.{FiveTexts}
 use Rattle.building.specs.Reading.{AreRecords}
-use Rattle.building.specs.inside.Stages.{IsBuiltOf, outputs_of}
+use Rattle.building.specs.Stages.{IsBuiltOf, outputs_of}
 use Rattle.grid_pieces.specs.declared.grid.Grid.{Grid}
 use Rattle.grid_signing.specs.declared.signed.SignedGrid.{SignedGrid}
 use Rattle.grid_signing.specs.Checked.{Signs}
@@ -42,15 +41,3 @@ of_signed told t r grid signed reads draws stands all = (
 
 pub built : (told : Option (List ℤ × List ℤ)) (t : FiveTexts) (r : Records) (outputs : Outputs) → AreRecords t r → IsBuiltOf told r outputs → IsBuilt told t outputs
 built told t r outputs reads (grid, draws, stands, (signed, all, same)) = subst (IsBuilt told t) (sym same) (of_signed told t r grid signed reads draws stands all)
-
--- Outputs are one whose texts and numbers are.
-abbrev outputs_from : (def netlist certificate report : List ℕ) → Numbers → Outputs
-outputs_from def netlist certificate report numbers = record { def = def; netlist = netlist; certificate = certificate; report = report; numbers = numbers }
-
-pub same_outputs : (a b : Outputs) → a.def ≡ b.def → a.netlist ≡ b.netlist → a.certificate ≡ b.certificate → a.report ≡ b.report → a.numbers ≡ b.numbers → a ≡ b
-same_outputs a b def netlist certificate report numbers =
-    ap (λ (z : List ℕ). outputs_from z a.netlist a.certificate a.report a.numbers) def
-    ∙ ap (λ (z : List ℕ). outputs_from b.def z a.certificate a.report a.numbers) netlist
-    ∙ ap (λ (z : List ℕ). outputs_from b.def b.netlist z a.report a.numbers) certificate
-    ∙ ap (λ (z : List ℕ). outputs_from b.def b.netlist b.certificate z a.numbers) report
-    ∙ ap (outputs_from b.def b.netlist b.certificate b.report) numbers

@@ -49,7 +49,7 @@ module _ (t : FiveTexts) (answer : Answer) where
   at_cells tech reads (inr (inr (first, other))) = inr (inr (inr (inl ((tech, reads), first, other))))
 
   module _ (tech : Tech) (reads : ReadsTech t.lef.text (Ok tech)) (cells : Cells) (are : AreCellsOf t.lef.text t.cells.text cells) where
-    lef : HasLef t
+    lef : HasLef t.lef t.cells
     lef = ((tech, reads), (are.first, are.first_reads), (are.second, are.second_reads))
 
     pub at_design : (answer ≡ Want) ⊎ IsRefused ReadsDesign def_kind t.def answer → IsUnread t answer

@@ -9,7 +9,7 @@ use Rattle.building.specs.declared.records.Records.{Records}
 use Rattle.building.specs.Inputs.{FiveTexts}
 use Rattle.building.specs.Reading.{AreRecords}
 use Rattle.building.specs.Refusal.{draw_answer, IsUnbuilt}
-use Rattle.building.specs.inside.Stages.{IsUndrawn, IsUnbuiltOf}
+use Rattle.building.specs.Stages.{IsUndrawn, IsUnbuiltOf}
 
 pub undrawn : (r : Records) (error : DrawError) (answer : Answer) → IsDrawRefused r.tech r.cells r.design r.script error → (answer ≡ Want) ⊎ (answer ≡ draw_answer r error) → IsUndrawn r answer
 undrawn r error answer refused (inl want) = inl want

@@ -4,4 +4,5 @@ pub mod Reading
 pub mod Building
 pub mod Checked
 pub mod Refusal
-pub mod inside
+pub mod Stages
+pub mod Laws

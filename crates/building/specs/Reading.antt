@@ -80,37 +80,37 @@ AreCellsRefused lef other answer =
     ⊎ (HasRecord ReadsCells lef × IsRefused ReadsCells cells_kind other answer))
 
 -- The text that is refused first. The text of the technology is read as a technology and then for its cells.
-abbrev pub RefusesTech : FiveTexts → Answer → Type 0
-RefusesTech t answer = IsRefused ReadsTech tech_kind t.lef answer
+abbrev pub RefusesTech : FileText → Answer → Type 0
+RefusesTech lef answer = IsRefused ReadsTech tech_kind lef answer
 
-abbrev pub RefusesOwnCells : FiveTexts → Answer → Type 0
-RefusesOwnCells t answer = HasRecord ReadsTech t.lef × IsRefused ReadsCells cells_kind t.lef answer
+abbrev pub RefusesOwnCells : FileText → Answer → Type 0
+RefusesOwnCells lef answer = HasRecord ReadsTech lef × IsRefused ReadsCells cells_kind lef answer
 
-abbrev pub RefusesCells : FiveTexts → Answer → Type 0
-RefusesCells t answer =
-    HasRecord ReadsTech t.lef × HasRecord ReadsCells t.lef × IsRefused ReadsCells cells_kind t.cells answer
+abbrev pub RefusesCells : (lef other : FileText) → Answer → Type 0
+RefusesCells lef other answer =
+    HasRecord ReadsTech lef × HasRecord ReadsCells lef × IsRefused ReadsCells cells_kind other answer
 
--- All LEF texts have their records.
-abbrev pub HasLef : FiveTexts → Type 0
-HasLef t = HasRecord ReadsTech t.lef × HasRecord ReadsCells t.lef × HasRecord ReadsCells t.cells
+-- Both LEF texts have their records.
+abbrev pub HasLef : (lef other : FileText) → Type 0
+HasLef lef other = HasRecord ReadsTech lef × HasRecord ReadsCells lef × HasRecord ReadsCells other
 
 abbrev pub RefusesDesign : FiveTexts → Answer → Type 0
-RefusesDesign t answer = HasLef t × IsRefused ReadsDesign def_kind t.def answer
+RefusesDesign t answer = HasLef t.lef t.cells × IsRefused ReadsDesign def_kind t.def answer
 
 abbrev pub RefusesScript : FiveTexts → Answer → Type 0
-RefusesScript t answer = HasLef t × HasRecord ReadsDesign t.def × IsRefused ReadsScript script_kind t.pdn answer
+RefusesScript t answer = HasLef t.lef t.cells × HasRecord ReadsDesign t.def × IsRefused ReadsScript script_kind t.pdn answer
 
 abbrev pub RefusesBias : FiveTexts → Answer → Type 0
 RefusesBias t answer =
-    HasLef t × HasRecord ReadsDesign t.def × HasRecord ReadsScript t.pdn × IsRefused ReadsBias bias_kind t.bias answer
+    HasLef t.lef t.cells × HasRecord ReadsDesign t.def × HasRecord ReadsScript t.pdn × IsRefused ReadsBias bias_kind t.bias answer
 
 -- Why the texts are not read: memory ran out, or one of them is refused and none before it.
 abbrev pub IsUnread : FiveTexts → Answer → Type 0
 IsUnread t answer =
     (answer ≡ Want)
-    ⊎ (RefusesTech t answer
-    ⊎ (RefusesOwnCells t answer
-    ⊎ (RefusesCells t answer
+    ⊎ (RefusesTech t.lef answer
+    ⊎ (RefusesOwnCells t.lef answer
+    ⊎ (RefusesCells t.lef t.cells answer
     ⊎ (RefusesDesign t answer
     ⊎ (RefusesScript t answer
     ⊎ RefusesBias t answer)))))

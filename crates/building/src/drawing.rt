@@ -4,7 +4,7 @@ ghost use Rattle.answers.specs.declared.answer.Answer.TheVariants.{Want};
 ghost use Rattle.building.specs.Building.{IsGridOf, GridStands};
 ghost use Rattle.building.specs.Reading.{RecordsKeep};
 ghost use Rattle.building.specs.Refusal.{draw_answer};
-ghost use Rattle.building.specs.inside.Stages.{IsUndrawn};
+ghost use Rattle.building.specs.Stages.{IsUndrawn};
 
 use crate::records::Records;
 use answers::Answer;
@@ -36,8 +36,9 @@ pub(crate) fn grid_of(alloc: Global, records: &Records) -> Result<Grid, Answer>
     }
 }
 
-/// The answer to a script that draws no grid.
-fn undrawn(alloc: Global, records: &Records, error: &DrawError) -> Answer
+/// The answer to a script that draws no grid, for this reason: want of memory, or that nothing is drawn, with the words of the
+/// reason. Where memory runs out for the words it is want of memory.
+pub fn undrawn(alloc: Global, records: &Records, error: &DrawError) -> Answer
     ensures { (result ≡ Want) ⊎ (result ≡ draw_answer records.now error.now) }
 {
     if matches!(error, DrawError::Want) {

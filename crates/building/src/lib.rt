@@ -15,9 +15,10 @@ mod read_texts;
 mod records;
 mod whole;
 
+pub use drawing::undrawn;
 pub use input::{Input, Inputs};
 pub use laws::answers_to_designs;
 pub use outputs::Outputs;
-pub use read_texts::{bias_of, joined_cells, placed_of, refused, tech_of};
+pub use read_texts::{bias_of, joined_cells, placed_of, read_all, refused, tech_of};
 pub use records::Records;
-pub use whole::build;
+pub use whole::{basis_of, build, build_of, outputs_with};

@@ -31,7 +31,7 @@ use std::alloc::Global;
 /// What the five texts say.
 ///
 /// Error: the answer to the first text that is refused, or to want of memory.
-pub(crate) fn read_all(alloc: Global, inputs: &Inputs) -> Result<Records, Answer>
+pub fn read_all(alloc: Global, inputs: &Inputs) -> Result<Records, Answer>
     ensures records { IfOk result (AreRecords (five_texts inputs.now)) }
     ensures keep { IfOk result RecordsKeep }
     ensures refused { IfErr result (IsUnread (five_texts inputs.now)) }

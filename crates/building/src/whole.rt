@@ -6,7 +6,7 @@ ghost use Rattle.building.specs.Checked.{PassesCheck};
 ghost use Rattle.building.specs.Inputs.{five_texts};
 ghost use Rattle.building.specs.Reading.{RecordsKeep};
 ghost use Rattle.building.specs.Refusal.{IsUnbuilt};
-ghost use Rattle.building.specs.inside.Stages.{IsBuiltOf, IsUnbuiltOf, BuildsGrid};
+ghost use Rattle.building.specs.Stages.{IsBuiltOf, IsUnbuiltOf, BuildsGrid};
 ghost use Rattle.grid_signing.specs.Basis.{base_of as base_of_basis};
 ghost use Rattle.grid_signing.specs.Refusal.{IsUnsigned};
 ghost use Rattle.grid_signing.specs.Solutions.{SolutionsKeep};
@@ -49,8 +49,16 @@ pub fn build<V: Solver>(alloc: Global, inputs: &Inputs, solver: &mut V) -> Resul
     }
 }
 
-/// Builds the power grid of what the texts say.
-fn build_of<V: Solver>(alloc: Global, records: &Records, solver: &mut V) -> Result<Outputs, Answer>
+/// Builds the power grid of what the texts say, and signs it off with what the solver proposes: the work of `build` once the
+/// texts are read.
+///
+/// Error: the answer to a script that draws no grid, to a grid that has no network, to a node without supply, or to want of
+/// memory.
+pub fn build_of<V: Solver>(
+    alloc: Global,
+    records: &Records,
+    solver: &mut V,
+) -> Result<Outputs, Answer>
     requires { RecordsKeep records.now }
     ensures built { IfOk result (IsBuiltOf (V.told solver.old) records.now) }
     ensures refused { IfErr result (IsUnbuiltOf records.now) }
@@ -90,8 +98,8 @@ fn build_grid<V: Solver>(
     }
 }
 
-/// What a drawn grid is signed off over.
-fn basis_of(records: &Records) -> Basis<'_>
+/// What the grid of these records is signed off over.
+pub fn basis_of(records: &Records) -> Basis<'_>
     ensures { base_of_basis result ≡ base_of records.now }
 {
     Basis {
@@ -102,8 +110,8 @@ fn basis_of(records: &Records) -> Basis<'_>
     }
 }
 
-/// The texts of a grid that is signed off, with the text of its design.
-fn outputs_with(def: Vec<u8>, signed: SignedGrid) -> Outputs
+/// The outputs: the texts of a grid that is signed off, with the text of its design in DEF.
+pub fn outputs_with(def: Vec<u8>, signed: SignedGrid) -> Outputs
     ensures def { result.def ≡ def.items }
     ensures netlist { result.netlist ≡ signed.netlist }
     ensures certificate { result.certificate ≡ signed.certificate }

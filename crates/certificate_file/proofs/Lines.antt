@@ -71,12 +71,7 @@ no_digits : 0 < length {A = ℕ} [] → ⊥
 no_digits h = omega arith
 
 signed_word : (negative : Bool) (digits : List ℕ) → IsNumeral 10 digits → IsNumberWord ((if negative then codes "-" else []) ++ digits)
-signed_word true digits h = record {
-  some = omega arith;
-  low = omega arith;
-  high = omega arith;
-  plain = digits_plain digits h.1;
-}
+signed_word true digits h = record { some = omega arith; low = omega arith; high = omega arith; plain = digits_plain digits h.1 }
 signed_word false [] h = absurd (no_digits h.0)
 signed_word false (c ∷ cs) h =
     let range = digit_from_value c h.1.0 in

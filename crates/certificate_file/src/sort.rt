@@ -42,13 +42,8 @@ fn sort_of_text(text: &[u8]) -> Sort
     ensures { result ≡ sort_of_text text.now }
 {
     keyword_or!(text;
-        b"pdn" => Sort::Pdn,
-        b"certificate" => Sort::Certificate,
-        b"1" => Sort::Version,
-        b"end" => Sort::Last,
-        b";" => Sort::Mark,
-        b"(" => Sort::Mark,
-        b")" => Sort::Mark;
+        b"pdn" => Sort::Pdn, b"certificate" => Sort::Certificate, b"1" => Sort::Version, b"end" => Sort::Last,
+        b";" => Sort::Mark, b"(" => Sort::Mark, b")" => Sort::Mark;
         Sort::Other)
 }
 

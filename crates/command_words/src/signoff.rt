@@ -9,18 +9,6 @@ use crate::file_name::FileName;
 use crate::settings::option_values;
 use std::alloc::{AllocError, Global};
 
-/// The options of `signoff`.
-const SIGNOFF: [&str; 8] = [
-    "--lef",
-    "--cells",
-    "--def",
-    "--wires",
-    "--bias",
-    "--netlist",
-    "--certificate",
-    "--report",
-];
-
 /// The command `signoff` of the values of its options.
 fn signoff_of(alloc: Global, values: &[&str]) -> Result<Command, AllocError>
     requires { length values.now ≡ 8 }
@@ -37,6 +25,18 @@ fn signoff_of(alloc: Global, values: &[&str]) -> Result<Command, AllocError>
         report: FileName::new(alloc, values[7])?,
     })
 }
+
+/// The options of `signoff`.
+const SIGNOFF: [&str; 8] = [
+    "--lef",
+    "--cells",
+    "--def",
+    "--wires",
+    "--bias",
+    "--netlist",
+    "--certificate",
+    "--report",
+];
 
 /// The command `signoff` over the words after its name.
 pub(crate) fn signoff(alloc: Global, words: &[&str]) -> Result<Command, WordsError>

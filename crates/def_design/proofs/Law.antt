@@ -13,89 +13,44 @@ use Rattle.def_statements.specs.declared.section.Section.TheVariants as places
 use Rattle.def_statements.specs.declared.sort.Sort.{Sort}
 use Rattle.def_statements.specs.declared.sort.Sort.TheVariants as sorts
 use Rattle.def_statements.specs.Pattern.{pattern}
-use Rattle.def_statements.specs.Sort.{all_sorts, sort_of, sort_with}
+use Rattle.def_statements.specs.Sort.{all_sorts, sort_of, sort_with, number_of, listed}
 use Rattle.def_statements.specs.Standing.{section_of}
 use Rattle.def_statements.specs.Unit.{last_text, last_sort}
 use Rattle.reading.specs.declared.refusal.Found.{Found}
 use Rattle.reading.specs.declared.word.Form.{Form}
 use Rattle.reading.specs.declared.word.Form.TheVariants.{Bare, Quoted as QuotedForm, End as EndForm}
 use Rattle.reading.specs.Grammar.{IsUnit, IsRegular}
-use Rattle.reading.specs.Laws.{immediate}
+use Rattle.reading.specs.Laws.{immediate, sampled}
 use Rattle.reading.specs.Word.{Token}
 
-word : List ℕ → Form → Token
+abbrev word : List ℕ → Form → Token
 word text form = record { text = text; place = record { line = 1; word = 1 }; form = form }
 
+abbrev samples : List Token
+samples =
+    word (codes ";") Bare ∷ word (codes "(") Bare ∷ word (codes ")") Bare ∷ word (codes "+") Bare ∷
+    word (codes "-") Bare ∷ word (codes "N") Bare ∷ word (codes "FS") Bare ∷ word (codes "S") Bare ∷
+    word (codes "FN") Bare ∷ word (codes "W") Bare ∷ word (codes "E") Bare ∷ word (codes "FW") Bare ∷
+    word (codes "FE") Bare ∷ word (codes "PLACED") Bare ∷ word (codes "FIXED") Bare ∷ word (codes "END") Bare ∷
+    word (codes "DESIGN") Bare ∷ word (codes "UNITS") Bare ∷ word (codes "DISTANCE") Bare ∷
+    word (codes "MICRONS") Bare ∷ word (codes "DIEAREA") Bare ∷ word (codes "ROW") Bare ∷ word (codes "DO") Bare ∷
+    word (codes "BY") Bare ∷ word (codes "STEP") Bare ∷ word (codes "COMPONENTS") Bare ∷
+    word (codes "BLOCKAGES") Bare ∷ word (codes "REGIONS") Bare ∷ word (codes "SPECIALNETS") Bare ∷
+    word (codes "VIAS") Bare ∷ word (codes "FILLS") Bare ∷ word (codes "BEGINEXT") Bare ∷ word (codes "LAYER") Bare ∷
+    word (codes "PLACEMENT") Bare ∷ word (codes "SPACING") Bare ∷ word (codes "PUSHDOWN") Bare ∷
+    word (codes "COMPONENT") Bare ∷ word (codes "DESIGNRULEWIDTH") Bare ∷ word (codes "EXCEPTPGNET") Bare ∷
+    word (codes "RECT") Bare ∷ word (codes "POLYGON") Bare ∷ word (codes "ROUTED") Bare ∷ word [] QuotedForm ∷
+    word [] Bare ∷ word [] EndForm ∷ []
+
 sample : (sort : Sort) → (w : Token) × (sort_of w ≡ sort)
-unfolding word
-sample sorts.Semicolon = (word (codes ";") Bare, refl)
-sample sorts.Open = (word (codes "(") Bare, refl)
-sample sorts.Close = (word (codes ")") Bare, refl)
-sample sorts.Plus = (word (codes "+") Bare, refl)
-sample sorts.Minus = (word (codes "-") Bare, refl)
-sample sorts.N = (word (codes "N") Bare, refl)
-sample sorts.FS = (word (codes "FS") Bare, refl)
-sample sorts.S = (word (codes "S") Bare, refl)
-sample sorts.FN = (word (codes "FN") Bare, refl)
-sample sorts.W = (word (codes "W") Bare, refl)
-sample sorts.E = (word (codes "E") Bare, refl)
-sample sorts.FW = (word (codes "FW") Bare, refl)
-sample sorts.FE = (word (codes "FE") Bare, refl)
-sample sorts.Placed = (word (codes "PLACED") Bare, refl)
-sample sorts.Fixed = (word (codes "FIXED") Bare, refl)
-sample sorts.End = (word (codes "END") Bare, refl)
-sample sorts.Design = (word (codes "DESIGN") Bare, refl)
-sample sorts.Units = (word (codes "UNITS") Bare, refl)
-sample sorts.Distance = (word (codes "DISTANCE") Bare, refl)
-sample sorts.Microns = (word (codes "MICRONS") Bare, refl)
-sample sorts.DieArea = (word (codes "DIEAREA") Bare, refl)
-sample sorts.Row = (word (codes "ROW") Bare, refl)
-sample sorts.Do = (word (codes "DO") Bare, refl)
-sample sorts.By = (word (codes "BY") Bare, refl)
-sample sorts.Step = (word (codes "STEP") Bare, refl)
-sample sorts.Components = (word (codes "COMPONENTS") Bare, refl)
-sample sorts.Blockages = (word (codes "BLOCKAGES") Bare, refl)
-sample sorts.Regions = (word (codes "REGIONS") Bare, refl)
-sample sorts.SpecialNets = (word (codes "SPECIALNETS") Bare, refl)
-sample sorts.PassedSection = (word (codes "VIAS") Bare, refl)
-sample sorts.Fills = (word (codes "FILLS") Bare, refl)
-sample sorts.BeginExt = (word (codes "BEGINEXT") Bare, refl)
-sample sorts.Layer = (word (codes "LAYER") Bare, refl)
-sample sorts.Placement = (word (codes "PLACEMENT") Bare, refl)
-sample sorts.Spacing = (word (codes "SPACING") Bare, refl)
-sample sorts.PushDown = (word (codes "PUSHDOWN") Bare, refl)
-sample sorts.Component = (word (codes "COMPONENT") Bare, refl)
-sample sorts.Width = (word (codes "DESIGNRULEWIDTH") Bare, refl)
-sample sorts.ExceptPgNet = (word (codes "EXCEPTPGNET") Bare, refl)
-sample sorts.Rect = (word (codes "RECT") Bare, refl)
-sample sorts.Polygon = (word (codes "POLYGON") Bare, refl)
-sample sorts.Routed = (word (codes "ROUTED") Bare, refl)
-sample sorts.Quoted = (word [] QuotedForm, refl)
-sample sorts.Other = (word [] Bare, refl)
-sample sorts.TextEnd = (word [] EndForm, refl)
+sample sort = sampled sort_of samples all_sorts (number_of sort) sort refl (listed sort)
 
 usable : Section → Sort → Bool
 usable section sort = true
 
 units_end : (section : Section) → IsUnit all_sorts (usable section) sorts.TextEnd (pattern section)
 unfolding usable
-units_end places.Top = record { solid = inr refl; closes = refl; comes_last = refl }
-units_end places.Components = record { solid = inr refl; closes = refl; comes_last = refl }
-units_end places.Entry = record { solid = inr refl; closes = refl; comes_last = refl }
-units_end places.EntryPart = record { solid = inr refl; closes = refl; comes_last = refl }
-units_end places.Blockages = record { solid = inr refl; closes = refl; comes_last = refl }
-units_end places.BlockageKind = record { solid = inr refl; closes = refl; comes_last = refl }
-units_end places.Parts = record { solid = inr refl; closes = refl; comes_last = refl }
-units_end places.Part = record { solid = inr refl; closes = refl; comes_last = refl }
-units_end places.Rects = record { solid = inr refl; closes = refl; comes_last = refl }
-units_end places.Placement = record { solid = inr refl; closes = refl; comes_last = refl }
-units_end places.Regions = record { solid = inr refl; closes = refl; comes_last = refl }
-units_end places.Region = record { solid = inr refl; closes = refl; comes_last = refl }
-units_end places.Wiring = record { solid = inr refl; closes = refl; comes_last = refl }
-units_end places.WiringPart = record { solid = inr refl; closes = refl; comes_last = refl }
-units_end places.WiringEnd = record { solid = inr refl; closes = refl; comes_last = refl }
-units_end places.Passed = record { solid = inr refl; closes = refl; comes_last = refl }
-units_end places.Ended = record { solid = inr refl; closes = refl; comes_last = refl }
+units_end = elim [ places.Top ↦ record { solid = inr refl; closes = refl; comes_last = refl } | _ ↦ record { solid = inr refl; closes = refl; comes_last = refl } ]
 
 -- ## faults stand at the last word, one at most
 

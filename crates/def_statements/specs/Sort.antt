@@ -2,59 +2,18 @@
 -- words, and the end of the text.
 use Rattle.std.specs.Prelude.{◌≡◌, ℕ, ◌≤◌, ◌==◌, Bool, List, [], ◌∷◌, length, slice_get, Some, codes}
 use Rattle.std.proofs.Common.{refl, arith}
+use denote.Enum.Declared.{tag_of}
 use Rattle.def_statements.specs.declared.sort.Sort.{Sort}
+use Rattle.def_statements.specs.contracts.sort.Sort.{the_type}
 use Rattle.def_statements.specs.declared.sort.Sort.TheVariants.{Semicolon, Open, Close, Plus, Minus, N, FS, S, FN, W, E, FW, FE, Placed, Fixed, End, Design, Units, Distance, Microns, DieArea, Row, Do, By, Step, Components, Blockages, Regions, SpecialNets, PassedSection, Fills, BeginExt, Layer, Placement, Spacing, PushDown, Component, Width, ExceptPgNet, Rect, Polygon, Routed, Quoted, Other, TextEnd}
 use Rattle.reading.specs.declared.word.Form.{Form}
 use Rattle.reading.specs.declared.word.Form.TheVariants.{Bare, End as EndForm}
 use Rattle.reading.specs.Keyword.{keyword_or}
 use Rattle.reading.specs.Word.{Token}
 
+-- The place of the variant among all.
 abbrev pub number_of : Sort → ℕ
-number_of Semicolon = 0
-number_of Open = 1
-number_of Close = 2
-number_of Plus = 3
-number_of Minus = 4
-number_of N = 5
-number_of FS = 6
-number_of S = 7
-number_of FN = 8
-number_of W = 9
-number_of E = 10
-number_of FW = 11
-number_of FE = 12
-number_of Placed = 13
-number_of Fixed = 14
-number_of End = 15
-number_of Design = 16
-number_of Units = 17
-number_of Distance = 18
-number_of Microns = 19
-number_of DieArea = 20
-number_of Row = 21
-number_of Do = 22
-number_of By = 23
-number_of Step = 24
-number_of Components = 25
-number_of Blockages = 26
-number_of Regions = 27
-number_of SpecialNets = 28
-number_of PassedSection = 29
-number_of Fills = 30
-number_of BeginExt = 31
-number_of Layer = 32
-number_of Placement = 33
-number_of Spacing = 34
-number_of PushDown = 35
-number_of Component = 36
-number_of Width = 37
-number_of ExceptPgNet = 38
-number_of Rect = 39
-number_of Polygon = 40
-number_of Routed = 41
-number_of Quoted = 42
-number_of Other = 43
-number_of TextEnd = 44
+number_of = elim [ Semicolon ↦ 0 | sort ↦ tag_of the_type sort ]
 
 abbrev pub all_sorts : List Sort
 all_sorts =
@@ -70,67 +29,29 @@ the this sort = number_of sort == number_of this
 -- The marks and the orientations.
 abbrev pub marks : List (List ℕ × Sort)
 marks =
-    (codes ";", Semicolon)
-    ∷ (codes "(", Open)
-    ∷ (codes ")", Close)
-    ∷ (codes "+", Plus)
-    ∷ (codes "-", Minus)
-    ∷ (codes "N", N)
-    ∷ (codes "FS", FS)
-    ∷ (codes "S", S)
-    ∷ (codes "FN", FN)
-    ∷ (codes "W", W)
-    ∷ (codes "E", E)
-    ∷ (codes "FW", FW)
-    ∷ (codes "FE", FE) ∷ []
+    (codes ";", Semicolon) ∷ (codes "(", Open) ∷ (codes ")", Close) ∷ (codes "+", Plus) ∷ (codes "-", Minus)
+    ∷ (codes "N", N) ∷ (codes "FS", FS) ∷ (codes "S", S) ∷ (codes "FN", FN) ∷ (codes "W", W) ∷ (codes "E", E)
+    ∷ (codes "FW", FW) ∷ (codes "FE", FE) ∷ []
 
 -- The words of statements and of the heads of sections.
 abbrev pub statements : List (List ℕ × Sort)
 statements =
-    (codes "PLACED", Placed)
-    ∷ (codes "FIXED", Fixed)
-    ∷ (codes "COVER", Fixed)
-    ∷ (codes "END", End)
-    ∷ (codes "DESIGN", Design)
-    ∷ (codes "UNITS", Units)
-    ∷ (codes "DISTANCE", Distance)
-    ∷ (codes "MICRONS", Microns)
-    ∷ (codes "DIEAREA", DieArea)
-    ∷ (codes "ROW", Row)
-    ∷ (codes "DO", Do)
-    ∷ (codes "BY", By)
-    ∷ (codes "STEP", Step)
-    ∷ (codes "COMPONENTS", Components)
-    ∷ (codes "BLOCKAGES", Blockages)
-    ∷ (codes "REGIONS", Regions)
-    ∷ (codes "SPECIALNETS", SpecialNets)
-    ∷ (codes "VIAS", PassedSection)
-    ∷ (codes "PROPERTYDEFINITIONS", PassedSection)
-    ∷ (codes "NONDEFAULTRULES", PassedSection)
-    ∷ (codes "STYLES", PassedSection)
-    ∷ (codes "PINS", PassedSection)
-    ∷ (codes "PINPROPERTIES", PassedSection)
-    ∷ (codes "NETS", PassedSection)
-    ∷ (codes "SCANCHAINS", PassedSection)
-    ∷ (codes "GROUPS", PassedSection)
-    ∷ (codes "FILLS", Fills)
-    ∷ (codes "SLOTS", Fills)
-    ∷ (codes "BEGINEXT", BeginExt) ∷ []
+    (codes "PLACED", Placed) ∷ (codes "FIXED", Fixed) ∷ (codes "COVER", Fixed) ∷ (codes "END", End)
+    ∷ (codes "DESIGN", Design) ∷ (codes "UNITS", Units) ∷ (codes "DISTANCE", Distance) ∷ (codes "MICRONS", Microns)
+    ∷ (codes "DIEAREA", DieArea) ∷ (codes "ROW", Row) ∷ (codes "DO", Do) ∷ (codes "BY", By) ∷ (codes "STEP", Step)
+    ∷ (codes "COMPONENTS", Components) ∷ (codes "BLOCKAGES", Blockages) ∷ (codes "REGIONS", Regions)
+    ∷ (codes "SPECIALNETS", SpecialNets) ∷ (codes "VIAS", PassedSection) ∷ (codes "PROPERTYDEFINITIONS", PassedSection)
+    ∷ (codes "NONDEFAULTRULES", PassedSection) ∷ (codes "STYLES", PassedSection) ∷ (codes "PINS", PassedSection)
+    ∷ (codes "PINPROPERTIES", PassedSection) ∷ (codes "NETS", PassedSection) ∷ (codes "SCANCHAINS", PassedSection)
+    ∷ (codes "GROUPS", PassedSection) ∷ (codes "FILLS", Fills) ∷ (codes "SLOTS", Fills) ∷ (codes "BEGINEXT", BeginExt)
+    ∷ []
 
 -- The words of the parts of entries.
 abbrev pub parts : List (List ℕ × Sort)
 parts =
-    (codes "LAYER", Layer)
-    ∷ (codes "PLACEMENT", Placement)
-    ∷ (codes "SPACING", Spacing)
-    ∷ (codes "PUSHDOWN", PushDown)
-    ∷ (codes "COMPONENT", Component)
-    ∷ (codes "DESIGNRULEWIDTH", Width)
-    ∷ (codes "MASK", Width)
-    ∷ (codes "EXCEPTPGNET", ExceptPgNet)
-    ∷ (codes "RECT", Rect)
-    ∷ (codes "POLYGON", Polygon)
-    ∷ (codes "ROUTED", Routed)
+    (codes "LAYER", Layer) ∷ (codes "PLACEMENT", Placement) ∷ (codes "SPACING", Spacing) ∷ (codes "PUSHDOWN", PushDown)
+    ∷ (codes "COMPONENT", Component) ∷ (codes "DESIGNRULEWIDTH", Width) ∷ (codes "MASK", Width)
+    ∷ (codes "EXCEPTPGNET", ExceptPgNet) ∷ (codes "RECT", Rect) ∷ (codes "POLYGON", Polygon) ∷ (codes "ROUTED", Routed)
     ∷ (codes "SHIELD", Routed) ∷ []
 
 -- The sort of a bare word.
@@ -154,51 +75,7 @@ sort_of word = sort_with word.form word.text
 
 -- Each sort stands in the list at its number, and there are few.
 pub listed : (sort : Sort) → slice_get all_sorts (number_of sort) ≡ Some sort
-listed Semicolon = refl
-listed Open = refl
-listed Close = refl
-listed Plus = refl
-listed Minus = refl
-listed N = refl
-listed FS = refl
-listed S = refl
-listed FN = refl
-listed W = refl
-listed E = refl
-listed FW = refl
-listed FE = refl
-listed Placed = refl
-listed Fixed = refl
-listed End = refl
-listed Design = refl
-listed Units = refl
-listed Distance = refl
-listed Microns = refl
-listed DieArea = refl
-listed Row = refl
-listed Do = refl
-listed By = refl
-listed Step = refl
-listed Components = refl
-listed Blockages = refl
-listed Regions = refl
-listed SpecialNets = refl
-listed PassedSection = refl
-listed Fills = refl
-listed BeginExt = refl
-listed Layer = refl
-listed Placement = refl
-listed Spacing = refl
-listed PushDown = refl
-listed Component = refl
-listed Width = refl
-listed ExceptPgNet = refl
-listed Rect = refl
-listed Polygon = refl
-listed Routed = refl
-listed Quoted = refl
-listed Other = refl
-listed TextEnd = refl
+listed = elim [ Semicolon ↦ refl | _ ↦ refl ]
 
 pub few : length all_sorts ≤ 64
 few = omega arith

@@ -125,19 +125,9 @@ fn sort_of_text(text: &[u8]) -> Sort
     ensures { result ≡ sort_of_text text.now }
 {
     keyword_or!(text;
-        b";" => Sort::Semicolon,
-        b"(" => Sort::Open,
-        b")" => Sort::Close,
-        b"+" => Sort::Plus,
-        b"-" => Sort::Minus,
-        b"N" => Sort::N,
-        b"FS" => Sort::FS,
-        b"S" => Sort::S,
-        b"FN" => Sort::FN,
-        b"W" => Sort::W,
-        b"E" => Sort::E,
-        b"FW" => Sort::FW,
-        b"FE" => Sort::FE;
+        b";" => Sort::Semicolon, b"(" => Sort::Open, b")" => Sort::Close, b"+" => Sort::Plus, b"-" => Sort::Minus,
+        b"N" => Sort::N, b"FS" => Sort::FS, b"S" => Sort::S, b"FN" => Sort::FN, b"W" => Sort::W, b"E" => Sort::E,
+        b"FW" => Sort::FW, b"FE" => Sort::FE;
         sort_of_statement(text))
 }
 
@@ -146,35 +136,15 @@ fn sort_of_statement(text: &[u8]) -> Sort
     ensures { result ≡ sort_of_statement text.now }
 {
     keyword_or!(text;
-        b"PLACED" => Sort::Placed,
-        b"FIXED" => Sort::Fixed,
-        b"COVER" => Sort::Fixed,
-        b"END" => Sort::End,
-        b"DESIGN" => Sort::Design,
-        b"UNITS" => Sort::Units,
-        b"DISTANCE" => Sort::Distance,
-        b"MICRONS" => Sort::Microns,
-        b"DIEAREA" => Sort::DieArea,
-        b"ROW" => Sort::Row,
-        b"DO" => Sort::Do,
-        b"BY" => Sort::By,
-        b"STEP" => Sort::Step,
-        b"COMPONENTS" => Sort::Components,
-        b"BLOCKAGES" => Sort::Blockages,
-        b"REGIONS" => Sort::Regions,
-        b"SPECIALNETS" => Sort::SpecialNets,
-        b"VIAS" => Sort::PassedSection,
-        b"PROPERTYDEFINITIONS" => Sort::PassedSection,
-        b"NONDEFAULTRULES" => Sort::PassedSection,
-        b"STYLES" => Sort::PassedSection,
-        b"PINS" => Sort::PassedSection,
-        b"PINPROPERTIES" => Sort::PassedSection,
-        b"NETS" => Sort::PassedSection,
-        b"SCANCHAINS" => Sort::PassedSection,
-        b"GROUPS" => Sort::PassedSection,
-        b"FILLS" => Sort::Fills,
-        b"SLOTS" => Sort::Fills,
-        b"BEGINEXT" => Sort::BeginExt;
+        b"PLACED" => Sort::Placed, b"FIXED" => Sort::Fixed, b"COVER" => Sort::Fixed, b"END" => Sort::End,
+        b"DESIGN" => Sort::Design, b"UNITS" => Sort::Units, b"DISTANCE" => Sort::Distance, b"MICRONS" => Sort::Microns,
+        b"DIEAREA" => Sort::DieArea, b"ROW" => Sort::Row, b"DO" => Sort::Do, b"BY" => Sort::By, b"STEP" => Sort::Step,
+        b"COMPONENTS" => Sort::Components, b"BLOCKAGES" => Sort::Blockages, b"REGIONS" => Sort::Regions,
+        b"SPECIALNETS" => Sort::SpecialNets, b"VIAS" => Sort::PassedSection,
+        b"PROPERTYDEFINITIONS" => Sort::PassedSection, b"NONDEFAULTRULES" => Sort::PassedSection,
+        b"STYLES" => Sort::PassedSection, b"PINS" => Sort::PassedSection, b"PINPROPERTIES" => Sort::PassedSection,
+        b"NETS" => Sort::PassedSection, b"SCANCHAINS" => Sort::PassedSection, b"GROUPS" => Sort::PassedSection,
+        b"FILLS" => Sort::Fills, b"SLOTS" => Sort::Fills, b"BEGINEXT" => Sort::BeginExt;
         sort_of_part(text))
 }
 
@@ -183,18 +153,10 @@ fn sort_of_part(text: &[u8]) -> Sort
     ensures { result ≡ sort_of_part text.now }
 {
     keyword_or!(text;
-        b"LAYER" => Sort::Layer,
-        b"PLACEMENT" => Sort::Placement,
-        b"SPACING" => Sort::Spacing,
-        b"PUSHDOWN" => Sort::PushDown,
-        b"COMPONENT" => Sort::Component,
-        b"DESIGNRULEWIDTH" => Sort::Width,
-        b"MASK" => Sort::Width,
-        b"EXCEPTPGNET" => Sort::ExceptPgNet,
-        b"RECT" => Sort::Rect,
-        b"POLYGON" => Sort::Polygon,
-        b"ROUTED" => Sort::Routed,
-        b"SHIELD" => Sort::Routed;
+        b"LAYER" => Sort::Layer, b"PLACEMENT" => Sort::Placement, b"SPACING" => Sort::Spacing,
+        b"PUSHDOWN" => Sort::PushDown, b"COMPONENT" => Sort::Component, b"DESIGNRULEWIDTH" => Sort::Width,
+        b"MASK" => Sort::Width, b"EXCEPTPGNET" => Sort::ExceptPgNet, b"RECT" => Sort::Rect, b"POLYGON" => Sort::Polygon,
+        b"ROUTED" => Sort::Routed, b"SHIELD" => Sort::Routed;
         Sort::Other)
 }
 

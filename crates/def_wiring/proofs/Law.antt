@@ -20,7 +20,7 @@ use Rattle.def_wiring.specs.Format.{format, section_of}
 use Rattle.def_wiring.specs.Path.{last_y, coordinate}
 use Rattle.def_wiring.specs.Record.{Asked, Said, known_vias, heard_of}
 use Rattle.def_wiring.specs.Rule.{pattern}
-use Rattle.def_wiring.specs.Sort.{all_sorts, sort_of, sort_with}
+use Rattle.def_wiring.specs.Sort.{all_sorts, sort_of, sort_with, number_of, listed}
 use Rattle.def_wiring.specs.Standing.{act_in, section_in, told}
 use Rattle.def_wiring.proofs.Late.{none_late}
 use Rattle.def_wiring.proofs.Numbers.{HasOne, number_one, not_both}
@@ -28,62 +28,34 @@ use Rattle.reading.specs.declared.refusal.Found.{Found}
 use Rattle.reading.specs.declared.word.Form.{Form}
 use Rattle.reading.specs.declared.word.Form.TheVariants.{Bare, Quoted as QuotedForm, End as EndForm}
 use Rattle.reading.specs.Grammar.{IsUnit, IsRegular}
-use Rattle.reading.specs.Laws.{immediate}
+use Rattle.reading.specs.Laws.{immediate, sampled}
 use Rattle.reading.specs.Word.{Token}
 
-word : List ℕ → Form → Token
+abbrev word : List ℕ → Form → Token
 word text form = record { text = text; place = record { line = 1; word = 1 }; form = form }
 
+abbrev samples : List Token
+samples =
+    word (codes ";") Bare ∷ word (codes "(") Bare ∷ word (codes ")") Bare ∷ word (codes "+") Bare ∷
+    word (codes "-") Bare ∷ word (codes "*") Bare ∷ word (codes "N") Bare ∷ word (codes "S") Bare ∷
+    word (codes "DO") Bare ∷ word (codes "END") Bare ∷ word (codes "DESIGN") Bare ∷ word (codes "VIAS") Bare ∷
+    word (codes "SPECIALNETS") Bare ∷ word (codes "PROPERTYDEFINITIONS") Bare ∷ word (codes "BEGINEXT") Bare ∷
+    word (codes "VIARULE") Bare ∷ word (codes "CUTSIZE") Bare ∷ word (codes "LAYERS") Bare ∷
+    word (codes "CUTSPACING") Bare ∷ word (codes "ENCLOSURE") Bare ∷ word (codes "ROWCOL") Bare ∷
+    word (codes "ORIGIN") Bare ∷ word (codes "USE") Bare ∷ word (codes "POWER") Bare ∷ word (codes "GROUND") Bare ∷
+    word (codes "ROUTED") Bare ∷ word (codes "NEW") Bare ∷ word (codes "SHAPE") Bare ∷ word (codes "RING") Bare ∷
+    word (codes "FOLLOWPIN") Bare ∷ word (codes "RECT") Bare ∷ word (codes "VIA") Bare ∷ word [] QuotedForm ∷
+    word [] Bare ∷ word [] EndForm ∷ []
+
 sample : (sort : Sort) → (w : Token) × (sort_of w ≡ sort)
-unfolding word
-sample Semicolon = (word (codes ";") Bare, refl)
-sample Open = (word (codes "(") Bare, refl)
-sample Close = (word (codes ")") Bare, refl)
-sample Plus = (word (codes "+") Bare, refl)
-sample Minus = (word (codes "-") Bare, refl)
-sample Star = (word (codes "*") Bare, refl)
-sample North = (word (codes "N") Bare, refl)
-sample Turn = (word (codes "S") Bare, refl)
-sample Do = (word (codes "DO") Bare, refl)
-sample End = (word (codes "END") Bare, refl)
-sample Design = (word (codes "DESIGN") Bare, refl)
-sample Vias = (word (codes "VIAS") Bare, refl)
-sample SpecialNets = (word (codes "SPECIALNETS") Bare, refl)
-sample PassedSection = (word (codes "PROPERTYDEFINITIONS") Bare, refl)
-sample BeginExt = (word (codes "BEGINEXT") Bare, refl)
-sample ViaRule = (word (codes "VIARULE") Bare, refl)
-sample CutSize = (word (codes "CUTSIZE") Bare, refl)
-sample Layers = (word (codes "LAYERS") Bare, refl)
-sample CutSpacing = (word (codes "CUTSPACING") Bare, refl)
-sample Enclosure = (word (codes "ENCLOSURE") Bare, refl)
-sample RowCol = (word (codes "ROWCOL") Bare, refl)
-sample Unread = (word (codes "ORIGIN") Bare, refl)
-sample Use = (word (codes "USE") Bare, refl)
-sample Power = (word (codes "POWER") Bare, refl)
-sample Ground = (word (codes "GROUND") Bare, refl)
-sample Routed = (word (codes "ROUTED") Bare, refl)
-sample New = (word (codes "NEW") Bare, refl)
-sample ShapeWord = (word (codes "SHAPE") Bare, refl)
-sample Ring = (word (codes "RING") Bare, refl)
-sample FollowPin = (word (codes "FOLLOWPIN") Bare, refl)
-sample Unwired = (word (codes "RECT") Bare, refl)
-sample Via = (word (codes "VIA") Bare, refl)
-sample Quoted = (word [] QuotedForm, refl)
-sample Other = (word [] Bare, refl)
-sample TextEnd = (word [] EndForm, refl)
+sample sort = sampled sort_of samples all_sorts (number_of sort) sort refl (listed sort)
 
 usable : Section → Sort → Bool
 usable section this = true
 
 units_end : (section : Section) → IsUnit all_sorts (usable section) TextEnd (pattern section)
 unfolding usable
-units_end places.Top = record { solid = inr refl; closes = refl; comes_last = refl }
-units_end places.Vias = record { solid = inr refl; closes = refl; comes_last = refl }
-units_end places.Via = record { solid = inr refl; closes = refl; comes_last = refl }
-units_end places.Nets = record { solid = inr refl; closes = refl; comes_last = refl }
-units_end places.Net = record { solid = inr refl; closes = refl; comes_last = refl }
-units_end places.Passed = record { solid = inr refl; closes = refl; comes_last = refl }
-units_end places.Ended = record { solid = inr refl; closes = refl; comes_last = refl }
+units_end = elim [ places.Top ↦ record { solid = inr refl; closes = refl; comes_last = refl } | _ ↦ record { solid = inr refl; closes = refl; comes_last = refl } ]
 
 last : (section : Section) (standing : Standing) (said : Said) (part : List Token) (a : Found Shown) → fault_in section standing said part a → a.at + 1 ≡ length part
 last section standing said (first ∷ []) a h = ap (λ z. z + 1) h.0

@@ -34,6 +34,17 @@ impl<'a> Grammar<'a> for WiresFormat {
 
     ghost holds = { λ wires held units. Holds units held };
 
+    fn fault(&self, said: &Held<'a>, unit: &[Word<'a>]) -> Option<Found<Shown>> {
+        let section = said.standing.section();
+        match unit {
+            [first] => found_at(0, first_fault(section, &said.said, &said.standing, first)),
+            [first, second] => {
+                found_at(1, second_fault(section, &said.said, sort_of(first), second))
+            }
+            _ => None,
+        }
+    }
+
     fn sort(&self, _said: &Held<'a>, word: &Word<'a>) -> Sort {
         sort_of(word)
     }
@@ -44,17 +55,6 @@ impl<'a> Grammar<'a> for WiresFormat {
 
     fn rule(section: Section) -> Rule<'a, Sort> {
         rule(section)
-    }
-
-    fn fault(&self, said: &Held<'a>, unit: &[Word<'a>]) -> Option<Found<Shown>> {
-        let section = said.standing.section();
-        match unit {
-            [first] => found_at(0, first_fault(section, &said.said, &said.standing, first)),
-            [first, second] => {
-                found_at(1, second_fault(section, &said.said, sort_of(first), second))
-            }
-            _ => None,
-        }
     }
 
     fn ends(&self, said: &Held<'a>) -> bool {

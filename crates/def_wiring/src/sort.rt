@@ -106,31 +106,13 @@ fn sort_of_part(text: &[u8]) -> Sort
     ensures { result ≡ sort_of_part text.now }
 {
     keyword_or!(text;
-        b"VIARULE" => Sort::ViaRule,
-        b"CUTSIZE" => Sort::CutSize,
-        b"LAYERS" => Sort::Layers,
-        b"CUTSPACING" => Sort::CutSpacing,
-        b"ENCLOSURE" => Sort::Enclosure,
-        b"ROWCOL" => Sort::RowCol,
-        b"ORIGIN" => Sort::Unread,
-        b"OFFSET" => Sort::Unread,
-        b"PATTERN" => Sort::Unread,
-        b"USE" => Sort::Use,
-        b"POWER" => Sort::Power,
-        b"GROUND" => Sort::Ground,
-        b"ROUTED" => Sort::Routed,
-        b"FIXED" => Sort::Routed,
-        b"COVER" => Sort::Routed,
-        b"NEW" => Sort::New,
-        b"SHAPE" => Sort::ShapeWord,
-        b"RING" => Sort::Ring,
-        b"FOLLOWPIN" => Sort::FollowPin,
-        b"RECT" => Sort::Unwired,
-        b"POLYGON" => Sort::Unwired,
-        b"SHIELD" => Sort::Unwired,
-        b"VIRTUAL" => Sort::Unwired,
-        b"STYLE" => Sort::Unwired,
-        b"MASK" => Sort::Unwired,
+        b"VIARULE" => Sort::ViaRule, b"CUTSIZE" => Sort::CutSize, b"LAYERS" => Sort::Layers,
+        b"CUTSPACING" => Sort::CutSpacing, b"ENCLOSURE" => Sort::Enclosure, b"ROWCOL" => Sort::RowCol,
+        b"ORIGIN" => Sort::Unread, b"OFFSET" => Sort::Unread, b"PATTERN" => Sort::Unread, b"USE" => Sort::Use,
+        b"POWER" => Sort::Power, b"GROUND" => Sort::Ground, b"ROUTED" => Sort::Routed, b"FIXED" => Sort::Routed,
+        b"COVER" => Sort::Routed, b"NEW" => Sort::New, b"SHAPE" => Sort::ShapeWord, b"RING" => Sort::Ring,
+        b"FOLLOWPIN" => Sort::FollowPin, b"RECT" => Sort::Unwired, b"POLYGON" => Sort::Unwired,
+        b"SHIELD" => Sort::Unwired, b"VIRTUAL" => Sort::Unwired, b"STYLE" => Sort::Unwired, b"MASK" => Sort::Unwired,
         b"VIA" => Sort::Via;
         Sort::Other)
 }
@@ -140,24 +122,12 @@ fn sort_of_statement(text: &[u8]) -> Sort
     ensures { result ≡ sort_of_statement text.now }
 {
     keyword_or!(text;
-        b"END" => Sort::End,
-        b"DESIGN" => Sort::Design,
-        b"VIAS" => Sort::Vias,
-        b"SPECIALNETS" => Sort::SpecialNets,
-        b"PROPERTYDEFINITIONS" => Sort::PassedSection,
-        b"NONDEFAULTRULES" => Sort::PassedSection,
-        b"STYLES" => Sort::PassedSection,
-        b"PINS" => Sort::PassedSection,
-        b"PINPROPERTIES" => Sort::PassedSection,
-        b"NETS" => Sort::PassedSection,
-        b"SCANCHAINS" => Sort::PassedSection,
-        b"GROUPS" => Sort::PassedSection,
-        b"FILLS" => Sort::PassedSection,
-        b"SLOTS" => Sort::PassedSection,
-        b"REGIONS" => Sort::PassedSection,
-        b"COMPONENTS" => Sort::PassedSection,
-        b"BLOCKAGES" => Sort::PassedSection,
-        b"BEGINEXT" => Sort::BeginExt;
+        b"END" => Sort::End, b"DESIGN" => Sort::Design, b"VIAS" => Sort::Vias, b"SPECIALNETS" => Sort::SpecialNets,
+        b"PROPERTYDEFINITIONS" => Sort::PassedSection, b"NONDEFAULTRULES" => Sort::PassedSection,
+        b"STYLES" => Sort::PassedSection, b"PINS" => Sort::PassedSection, b"PINPROPERTIES" => Sort::PassedSection,
+        b"NETS" => Sort::PassedSection, b"SCANCHAINS" => Sort::PassedSection, b"GROUPS" => Sort::PassedSection,
+        b"FILLS" => Sort::PassedSection, b"SLOTS" => Sort::PassedSection, b"REGIONS" => Sort::PassedSection,
+        b"COMPONENTS" => Sort::PassedSection, b"BLOCKAGES" => Sort::PassedSection, b"BEGINEXT" => Sort::BeginExt;
         sort_of_part(text))
 }
 
@@ -166,21 +136,9 @@ fn sort_of_text(text: &[u8]) -> Sort
     ensures { result ≡ sort_of_text text.now }
 {
     keyword_or!(text;
-        b";" => Sort::Semicolon,
-        b"(" => Sort::Open,
-        b")" => Sort::Close,
-        b"+" => Sort::Plus,
-        b"-" => Sort::Minus,
-        b"*" => Sort::Star,
-        b"N" => Sort::North,
-        b"S" => Sort::Turn,
-        b"W" => Sort::Turn,
-        b"E" => Sort::Turn,
-        b"FN" => Sort::Turn,
-        b"FS" => Sort::Turn,
-        b"FW" => Sort::Turn,
-        b"FE" => Sort::Turn,
-        b"DO" => Sort::Do;
+        b";" => Sort::Semicolon, b"(" => Sort::Open, b")" => Sort::Close, b"+" => Sort::Plus, b"-" => Sort::Minus,
+        b"*" => Sort::Star, b"N" => Sort::North, b"S" => Sort::Turn, b"W" => Sort::Turn, b"E" => Sort::Turn,
+        b"FN" => Sort::Turn, b"FS" => Sort::Turn, b"FW" => Sort::Turn, b"FE" => Sort::Turn, b"DO" => Sort::Do;
         sort_of_statement(text))
 }
 

@@ -40,19 +40,6 @@ fn stacks_of(
     stacks(alloc, tech, &kept, &[connect, second], blocks, 2000)
 }
 
-fn strap(net: u32, centre: i64) -> Piece {
-    Piece {
-        net,
-        layer: 3,
-        axis: Axis::Y,
-        centre,
-        width: 960,
-        from: -170,
-        to: 2970,
-        shape: Shape::Stripe,
-    }
-}
-
 fn rail(net: u32, centre: i64) -> Piece {
     Piece {
         net,
@@ -63,6 +50,19 @@ fn rail(net: u32, centre: i64) -> Piece {
         from: 0,
         to: 8000,
         shape: Shape::FollowPin,
+    }
+}
+
+fn strap(net: u32, centre: i64) -> Piece {
+    Piece {
+        net,
+        layer: 3,
+        axis: Axis::Y,
+        centre,
+        width: 960,
+        from: -170,
+        to: 2970,
+        shape: Shape::Stripe,
     }
 }
 

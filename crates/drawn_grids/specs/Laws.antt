@@ -1,2 +1,5 @@
 -- Lemmas that crates above use.
+pub mod Cut
+pub mod Grids
 pub mod Narrow
+pub mod Sites

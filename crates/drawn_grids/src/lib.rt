@@ -1,4 +1,5 @@
-//! Laws of drawn grids: what is asked of a grid that goes on is said of each that is drawn.
+//! Laws of grids and of their networks: what is asked of a grid that goes on is said of each that is drawn, and what is
+//! asked of a network that goes on is said of each that a grid has.
 #![tactic(auto)]
 
 mod laws;

@@ -16,7 +16,7 @@ use Rattle.grid_network.specs.Network.{IsNetworkOf, IsRefused}
 use Rattle.grid_taps.specs.Naming.{NamesNoNet, NamesNoCell, NoneIs, IsLeast}
 use Rattle.grid_taps.specs.Refusals.{LacksSupply, IsPadOff, PadsStand, ArePadsRefused, TapsStand, AreTapsRefused}
 use Rattle.grid_extract.specs.Extraction.{NamesNothing, AllStand, drawing_of, IsExtracted, IsNetRefused, IsExtractRefused}
-use Rattle.grid_extract.specs.inside.First.{earlier, first_of, first_with}
+use Rattle.grid_extract.specs.First.{earlier, first_of, first_with}
 
 -- ## numbers with one of two properties
 

@@ -1,2 +1,2 @@
 pub mod Extraction
-pub mod inside
+pub mod First

@@ -4,7 +4,7 @@ ghost use Rattle.lef_cells.specs.Limits.{CellsKeep};
 ghost use Rattle.def_design.specs.Limits.{DesignKeeps};
 ghost use Rattle.bias_file.specs.Limits.{BiasKeeps};
 ghost use Rattle.grid_extract.specs.Extraction.{GridKeeps, IsExtracted, IsExtractRefused};
-ghost use Rattle.grid_extract.specs.inside.First.{earlier, first_of, first_with};
+ghost use Rattle.grid_extract.specs.First.{earlier, first_of, first_with};
 
 use bias_file::Bias;
 use def_design::Design;
@@ -45,8 +45,9 @@ pub fn extract(
     network(alloc, grid, tech, &pads, &taps)
 }
 
-// The refusal of pads, or that of taps where it goes first.
-fn first_with(pads: ExtractError, taps: &Result<Vec<Tap>, ExtractError>) -> ExtractError
+/// The refusal of pads, or that of taps where it goes first: an unknown name goes before all other refusals, and the earliest
+/// line of all is named. Want of memory leaves open what else would have been refused.
+pub fn first_with(pads: ExtractError, taps: &Result<Vec<Tap>, ExtractError>) -> ExtractError
     ensures { result ≡ first_with pads taps.now }
 {
     match taps {

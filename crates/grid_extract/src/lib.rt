@@ -4,5 +4,5 @@
 mod extraction;
 mod laws;
 
-pub use extraction::extract;
+pub use extraction::{extract, first_with};
 pub use laws::no_bad_end_nor_conflict;

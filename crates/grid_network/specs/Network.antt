@@ -13,6 +13,9 @@ use Rattle.grid_network.specs.declared.error.ExtractError.{ExtractError}
 use Rattle.grid_network.specs.declared.error.ExtractError.TheVariants.{UnknownName, NoSupply, PadOff, LoadOff, Net, Want}
 use Rattle.grid_network.specs.declared.extracted.Extracted.{Extracted}
 use Rattle.grid_network.specs.declared.key.Key.{Key}
+use Rattle.grid_network.specs.declared.pad.PadOn.{PadOn}
+use Rattle.grid_network.specs.declared.pad.Tap.{Tap}
+use Rattle.grid_pieces.specs.declared.grid.Grid.{Grid}
 use Rattle.grid_network.specs.declared.segment.Segment.{Segment}
 use Rattle.grid_network.specs.Listing.{ListsAll, EachOnce}
 use Rattle.grid_network.specs.Drawing.{Drawing, key_at}
@@ -50,6 +53,12 @@ pub record IsNetworkOf (d : Drawing) (tech : Tech) (e : Extracted) : Type 0 wher
   pub not_refused : first_net_refusal (length e.keys) (resistors_of e.keys segments) (pads_of d e.keys)
       (loads_of d e.keys) ≡ None
   pub notes : AreNotes d tech e.notes
+
+-- The network of a grid with some pads and load taps.
+pub record IsNetworkOn (grid : Grid) (tech : Tech) (e : Extracted) : Type 0 where
+  pub pads : List PadOn
+  pub taps : List Tap
+  pub network : IsNetworkOf (record { grid = grid; pads = pads; taps = taps }) tech e
 
 -- There are more nodes than a network may have; the error has their exact count.
 pub record HasTooManyNodes (d : Drawing) (error : NetError) : Type 0 where

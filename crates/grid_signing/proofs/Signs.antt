@@ -25,7 +25,7 @@ use Rattle.written_netlists.specs.Alone.{unmerged}
 use Rattle.written_netlists.specs.Fits.{CanBeWritten, read_back}
 use Rattle.grid_signing.specs.declared.signed.SignedGrid.{SignedGrid}
 use Rattle.grid_signing.specs.Basis.{Base}
-use Rattle.grid_signing.specs.Checked.{PassesCheck}
+use Rattle.grid_signing.specs.Checked.{PassesCheck, SignsWith}
 use Rattle.grid_signing.specs.Refusal.{LacksSupplyAt}
 use Rattle.grid_signing.specs.Signing.{Signing, AreLimitsOver, AreSignedTexts}
 use Rattle.grid_signing.specs.Solutions.{SolutionsKeep}
@@ -80,6 +80,22 @@ signs told grid e limits c signed supplied same (scale, scale_is, in_range, made
       report = texts.report;
       numbers = texts.numbers;
     }
+
+-- What is signed off with one network is signed off with a network of each kind that it is of.
+pub of_kind : (Network : Extracted → Type 0) (told : Option (List ℤ × List ℤ)) (b : Base) (grid : Grid) (e : Extracted) (signed : SignedGrid) → Network e
+    → SignsWith (λ d. d ≡ e) told b grid signed → SignsWith Network told b grid signed
+of_kind Network told b grid e signed of is = record {
+  signing = is.signing;
+  is_signing = record {
+    network = subst Network (sym is.is_signing.network) of;
+    limits = is.is_signing.limits;
+    supplied = is.is_signing.supplied;
+    certified = is.is_signing.certified;
+  };
+  are_texts = is.are_texts;
+  keep = is.keep;
+  checked = is.checked;
+}
 
 -- The limits of lists that are the keys and branches of a network are the limits of the grid.
 pub limits_of_grid : (b : Base) (grid : Grid) (e : Extracted) (limits : Limits) (keys : List Key) (branches : List Branch) → keys ≡ e.keys → branches ≡ e.branches → AreGridLimits b.tech grid keys branches b.bias limits

@@ -54,13 +54,18 @@ pub record Signing : Type 0 where
   pub limits : Limits
   pub certificate : Certificate
 
--- The network is that of the grid, the limits are those of its branches and nets, each node is supplied, and the
--- certificate is a tight one of the network, which stands to what the solver tells as certification has it.
-pub record IsSigning (told : Option (List ℤ × List ℤ)) (b : Base) (grid : Grid) (s : Signing) : Type 0 where
-  pub network : IsNetworkOver b grid s.extracted
+-- The network is of this kind, the limits are those of its branches and nets, each node is supplied, and the certificate is
+-- a tight one of the network, which stands to what the solver tells as certification has it.
+pub record IsSigningWith (Network : Extracted → Type 0) (told : Option (List ℤ × List ℤ)) (b : Base) (grid : Grid)
+    (s : Signing) : Type 0 where
+  pub network : Network s.extracted
   pub limits : AreLimitsOver b grid s.extracted s.limits
   pub supplied : EachIsSupplied s.extracted.net
   pub certified : IsMadeOf told s.extracted.net s.certificate
+
+-- The network is that of the grid with the pads of the bias file and the currents of the components.
+abbrev pub IsSigning : Option (List ℤ × List ℤ) → Base → Grid → Signing → Type 0
+IsSigning told b grid s = IsSigningWith (IsNetworkOver b grid) told b grid s
 
 -- The texts are those of the network, of the certificate's two lists and of the report, and the numbers are those of the
 -- grid and of the report's verdicts.

@@ -40,8 +40,9 @@ pub(crate) fn network_of(alloc: Global, basis: &Basis, grid: &Grid) -> Result<Ex
     }
 }
 
-/// The answer to a grid of which no network is extracted.
-fn unextracted(alloc: Global, design: &Design, grid: &Grid, error: ExtractError) -> Answer
+/// The answer to a grid of which no network is extracted, for this reason: want of memory, a quantity beyond its limit, or that
+/// nothing is extracted, with the words of the reason. Where memory runs out for the words it is want of memory.
+pub fn unextracted(alloc: Global, design: &Design, grid: &Grid, error: ExtractError) -> Answer
     ensures { (result ≡ Want) ⊎ (result ≡ extract_answer design.now grid.now error) }
 {
     match error {

@@ -7,15 +7,12 @@ ghost use Rattle.grid_signing.specs.Refusal.{IsUnsigned};
 ghost use Rattle.grid_signing.specs.Signing.{CanBeSigned};
 
 use crate::basis::Basis;
+use crate::extracted::sign_extracted;
 use crate::network::network_of;
 use crate::signed::SignedGrid;
-use crate::signing::sign_network;
 use answers::Answer;
-use drawn_grids::{each_node_has_a_name, limits_are_of_the_network};
-use grid_limits::limits;
 use grid_net::Solver;
 use grid_pieces::Grid;
-use network_texts::extracted_networks_can_be_written;
 use std::alloc::Global;
 
 /// Signs off a grid over a placed design with what the solver proposes.
@@ -37,21 +34,8 @@ pub fn sign_grid<V: Solver>(
     ensures asked { IsOk result → Rose (V.proposals solver.old) (V.proposals solver.new) }
     ensures told { V.told solver.new ≡ V.told solver.old }
 {
-    each_node_has_a_name();
-    limits_are_of_the_network();
-    extracted_networks_can_be_written();
-    // More nets than 32 bits can number are want of memory.
-    if grid.nets.as_slice().len() > u32::MAX as usize {
-        return Err(Answer::Want);
+    match network_of(alloc, basis, grid) {
+        Ok(extracted) => sign_extracted(alloc, basis, grid, extracted, solver),
+        Err(answer) => Err(answer),
     }
-    let extracted = match network_of(alloc, basis, grid) {
-        Ok(extracted) => extracted,
-        Err(answer) => return Err(answer),
-    };
-    let keys = extracted.keys.as_slice();
-    let branches = extracted.branches.as_slice();
-    let Ok(limits) = limits(alloc, basis.tech, grid, keys, branches, basis.bias) else {
-        return Err(Answer::Want);
-    };
-    sign_network(alloc, grid, extracted, &limits, solver)
 }

@@ -17,7 +17,8 @@ use Rattle.grid_stacks.specs.declared.connect.Connect.{Connect}
 use Rattle.grid_stacks.specs.declared.connect.Site.{Site}
 use Rattle.grid_stacks.specs.Crossing.{At}
 use Rattle.grid_stacks.specs.inside.Bar.{AreByLow, AreByNet, AreStarts, BarsApart}
-use Rattle.grid_stacks.specs.inside.Standing.{Lies, Crosses, AreDifferent, AreMany, FlatAdded, AllAdded, NoneIs, StillLie, EachHas, OnOneLayer, AreOpened, bar_site, IsBefore, IsBehind, IsAllTo}
+use Rattle.grid_stacks.specs.inside.Standing.{Lies, Crosses, FlatAdded, AllAdded, NoneIs, StillLie, EachHas, OnOneLayer, AreOpened, bar_site, IsBefore, IsBehind, IsAllTo}
+use Rattle.grid_stacks.specs.Stacking.{AreDifferent, AreMany}
 use Rattle.grid_pieces.specs.Laws.Orders.{le_from}
 use Rattle.grid_stacks.proofs.RunSteps.{at_same, at_contains, at_place}
 

@@ -28,10 +28,10 @@ use Rattle.grid_pieces.specs.Line.{piece_rect}
 use Rattle.grid_pieces.specs.Limits.{PieceKeeps}
 use Rattle.grid_pieces.specs.Piece.{Among}
 use Rattle.grid_pieces.specs.Line.{across}
-use Rattle.grid_stacks.specs.Stacking.{ConnectKeeps}
+use Rattle.grid_stacks.specs.Stacking.{ConnectKeeps, AreDifferent, AreMany, AreStanding}
 use Rattle.grid_stacks.specs.Crossing.{At, common, crossing_of, HasWidth, Joins, Cross, LiesBetween, IsObstructed, IsUsed, site_of, limit_of, Stands}
 use Rattle.grid_stacks.specs.inside.Bar.{bar_of, IsOn, BarsApart, AreBarsOf}
-use Rattle.grid_stacks.specs.inside.Standing.{IsOverCell, Passes, Crosses, IsInner, AreDifferent, AreMany, AllAdded, OnOneLayer, bar_site, StandsBy, SitesAdded, HasLayers, AreUsedTo, IsStandingTo, AreStanding, GoAlong}
+use Rattle.grid_stacks.specs.inside.Standing.{IsOverCell, Passes, Crosses, IsInner, AllAdded, OnOneLayer, bar_site, StandsBy, SitesAdded, HasLayers, AreUsedTo, IsStandingTo, GoAlong}
 use Rattle.list_laws.specs.Laws.Permuted.{apart_permuted}
 use Rattle.grid_pieces.specs.Laws.Geometry.{units_in, half_within}
 use Rattle.grid_stacks.proofs.RunSteps.{at_same, at_get, at_contains, at_place, push_old, push_new, All-push}

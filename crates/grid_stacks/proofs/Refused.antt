@@ -15,7 +15,6 @@ use Rattle.grid_pieces.specs.declared.piece.Piece.{Piece}
 use Rattle.grid_pieces.specs.declared.piece.Block.{Block}
 use Rattle.grid_pieces.specs.Limits.{PieceKeeps}
 use Rattle.grid_pieces.specs.Touch.{rect_order}
-use Rattle.grid_stacks.specs.inside.Standing.{AreMany, AreStanding}
 use Rattle.list_laws.specs.Laws.Permuted.{apart_permuted}
 use Rattle.grid_stacks.proofs.Bridge.{crossing_keeps}
 use Rattle.grid_pieces.specs.Laws.Orders.{then_equal, nat_equal, int_equal}
@@ -27,7 +26,7 @@ use Rattle.grid_pieces.specs.declared.piece.StackAt.{StackAt}
 use Rattle.grid_pieces.specs.declared.error.DrawError.{DrawError}
 use Rattle.grid_pieces.specs.declared.error.DrawError.TheVariants.{TooMany, NoSheet, Stack, Want}
 use Rattle.grid_stacks.specs.Crossing.{At, IsUsed, Stands, limit_of}
-use Rattle.grid_stacks.specs.Stacking.{IsStackAt, AreStacksAt, AreStacksTo, IsOneRefused, IsSiteRefused, IsFirstRefused, ConnectKeeps, SiteKeeps, AreAllowed, AreRefused, HasSheet, most_pieces, most_stacks, place_order, site_order}
+use Rattle.grid_stacks.specs.Stacking.{IsStackAt, AreStacksAt, AreStacksTo, IsOneRefused, IsSiteRefused, IsFirstRefused, ConnectKeeps, SiteKeeps, AreAllowed, AreRefused, HasSheet, most_pieces, most_stacks, place_order, site_order, AreMany, AreStanding}
 use Rattle.grid_stacks.proofs.RunSteps.{at_get, at_same, at_contains}
 
 pub passed_on : {T E : Type 0} (P : T → Type 0) (Q : E → Type 0) (r : Result T E) (e : E) → IsErrAnd r (λ x. x ≡ e) → Q e → MatchResult r P Q

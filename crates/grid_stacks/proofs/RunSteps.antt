@@ -17,7 +17,8 @@ use Rattle.grid_stacks.specs.declared.connect.Connect.{Connect}
 use Rattle.grid_stacks.specs.declared.connect.Site.{Site}
 use Rattle.grid_stacks.specs.Crossing.{At}
 use Rattle.grid_stacks.specs.inside.Bar.{BarsApart, bar_run}
-use Rattle.grid_stacks.specs.inside.Standing.{Lies, IsOverCell, IsFreeCell, Passes, Fits, Crosses, AreDifferent, AreMany, RunAdded, FlatAdded, NoneIs, StillLie, EachHas, OnOneLayer, bar_site, IsNextIn, IsMet, IsRunTo, IsFlatTo}
+use Rattle.grid_stacks.specs.inside.Standing.{Lies, IsOverCell, IsFreeCell, Passes, Fits, Crosses, RunAdded, FlatAdded, NoneIs, StillLie, EachHas, OnOneLayer, bar_site, IsNextIn, IsMet, IsRunTo, IsFlatTo}
+use Rattle.grid_stacks.specs.Stacking.{AreDifferent, AreMany}
 use Rattle.grid_pieces.specs.Laws.Maximal.{separate}
 
 -- what stands at one place is one

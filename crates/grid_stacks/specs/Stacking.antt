@@ -46,6 +46,20 @@ pub record MoreThan (n : ℕ) (P : Site → Type 0) : Type 0 where
   pub differ : AllPairs (λ a b. a ≢ b) some
   pub more : n < length some
 
+-- No two sites are alike.
+abbrev pub AreDifferent : List Site → Type 0
+AreDifferent sites = AllPairs (λ a b. a ≢ b) sites
+
+-- More sites than are asked for.
+abbrev pub AreMany : List Site → Type 0
+AreMany sites = most_stacks < length sites
+
+-- All different sites with the property, or too many.
+pub record AreStanding (P : Site → Type 0) (sites : List Site) : Type 0 where
+  pub each : All P sites
+  pub differ : AreDifferent sites
+  pub every : AreMany sites ⊎ ((s : Site) → P s → Contains sites s)
+
 -- The list has all that have the property, each once and in order.
 pub record AreSites (P : Site → Type 0) (sites : List Site) : Type 0 where
   pub each : All P sites

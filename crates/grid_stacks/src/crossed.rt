@@ -5,7 +5,8 @@ ghost use Rattle.grid_stacks.specs.declared.bar.Start.{Start};
 ghost use Rattle.grid_stacks.specs.declared.connect.Site.{Site};
 ghost use Rattle.grid_stacks.specs.Crossing.{At};
 ghost use Rattle.grid_stacks.specs.inside.Bar.{AreByLow, AreByNet, AreStarts, BarsApart};
-ghost use Rattle.grid_stacks.specs.inside.Standing.{AreByStart, IsNextIn, IsBefore, IsBehind, IsMet, Lies, Fits, Crosses, AreDifferent, AreMany, RunAdded, FlatAdded, AllAdded, NoneIs, StillLie, EachHas, OnOneLayer, bar_site};
+ghost use Rattle.grid_stacks.specs.inside.Standing.{AreByStart, IsNextIn, IsBefore, IsBehind, IsMet, Lies, Fits, Crosses, RunAdded, FlatAdded, AllAdded, NoneIs, StillLie, EachHas, OnOneLayer, bar_site};
+ghost use Rattle.grid_stacks.specs.Stacking.{AreDifferent, AreMany};
 
 use crate::bar::{Bar, Start};
 use crate::connect::{Connect, Site};

@@ -7,10 +7,13 @@ mod connect;
 mod crossed;
 mod crossing;
 mod inner;
+mod laws;
 mod lying;
 mod over;
+mod places;
 mod stacking;
-mod standing;
 
 pub use connect::{Connect, Site};
-pub use stacking::stacks;
+pub use laws::{one_site_at_a_place, stacks_can_be_asked_for};
+pub use places::standing;
+pub use stacking::{stacks, stacks_at, without_sheet};

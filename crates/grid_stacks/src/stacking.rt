@@ -10,7 +10,7 @@ ghost use Rattle.grid_stacks.specs.Stacking.{ConnectKeeps, AreAlong, IsEven, Lie
 
 use crate::connect::{Connect, Site};
 use crate::crossed::MOST_STACKS;
-use crate::standing::standing;
+use crate::places::standing;
 use grid_pieces::{Block, Counted, DrawError, Piece, StackAt};
 use lef_tech::Tech;
 use std::alloc::{AllocError, Global};
@@ -56,8 +56,8 @@ pub fn stacks(
     stacks_at(alloc, tech, &sites, units)
 }
 
-// The layer of the first piece whose layer has no resistance of a square.
-fn without_sheet(tech: &Tech, pieces: &[Piece]) -> Option<u32>
+/// The layer of the first piece whose layer has no resistance of a square.
+pub fn without_sheet(tech: &Tech, pieces: &[Piece]) -> Option<u32>
     requires { All (HasLayer tech.now) pieces.now }
     ensures { MatchOption result (All (HasSheet tech.now) pieces.now) (IsFirstWithout tech.now pieces.now) }
 {
@@ -91,8 +91,10 @@ fn sort(sites: &mut [Site])
     ));
 }
 
-// The stack of each site, or the first that is refused.
-fn stacks_at(
+/// The stack of each place, in their order.
+///
+/// Errors: the first place that has no stack; want of memory.
+pub fn stacks_at(
     alloc: Global,
     tech: &Tech,
     sites: &[Site],

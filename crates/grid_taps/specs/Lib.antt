@@ -2,5 +2,6 @@ pub mod Naming
 pub mod Pads
 pub mod Rails
 pub mod Taps
+pub mod Tables
 pub mod Refusals
 pub mod inside

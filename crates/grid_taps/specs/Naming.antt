@@ -31,6 +31,9 @@ macro_names cells = map (λ (cell : MacroCell). cell.name) cells.macros
 abbrev pub component_names : Design → List (List ℕ)
 component_names design = map (λ (component : Component). component.name) design.components
 
+abbrev pub amps_names : List Amps → List (List ℕ)
+amps_names lines = map (λ (a : Amps). a.name) lines
+
 -- One of the lines has this number, and what it names is none of the names.
 abbrev pub NamesNone : {L : Type 0} → (L → ℕ) → (L → List ℕ) → List (List ℕ) → List L → ℕ → Type 0
 NamesNone {L} number_of name_of names lines number =

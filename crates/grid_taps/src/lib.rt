@@ -13,5 +13,7 @@ mod supply;
 mod tapping;
 
 pub use column::Column;
+pub use line::without_cell;
+pub use range::Range;
 pub use standing::pads;
-pub use tapping::taps;
+pub use tapping::{Seat, TapTables, add_taps, range_in, seat_of, tables_of, taps};

@@ -82,8 +82,10 @@ pub(crate) fn without_net(
     Ok(lesser(supply, lesser(drop, lesser(pad, layer))))
 }
 
-// The first cell line that names no macro, or instance line that names no component.
-pub(crate) fn without_cell(
+/// The first cell line that names no macro, or instance line that names no component.
+///
+/// Error: want of memory.
+pub fn without_cell(
     alloc: Global,
     cells: &Cells,
     design: &Design,

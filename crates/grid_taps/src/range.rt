@@ -1,17 +1,17 @@
 ghost use Rattle.std.specs.Prelude.{◌≡◌, MatchOption};
 ghost use Rattle.grid_taps.specs.Taps.{IsRange, HasNoLine, IsLine};
-ghost use Rattle.grid_taps.specs.inside.Steps.{amps_names};
+ghost use Rattle.grid_taps.specs.Naming.{amps_names};
 
 use crate::named::place_of;
 use bias_file::{Amps, Bias};
 use def_design::Component;
 use name_table::NameTable;
 
-// The least and the greatest current that a component draws, in fA.
+/// The least and the greatest current that a component draws, in fA.
 #[derive(Clone, Copy, Debug, PartialEq, Eq)]
-pub(crate) struct Range {
-    pub(crate) low: i64,
-    pub(crate) high: i64,
+pub struct Range {
+    pub low: i64,
+    pub high: i64,
 }
 
 // The range of the component: that of its own line, else that of its cell's, else from 0 to 0.

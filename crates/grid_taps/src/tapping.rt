@@ -4,11 +4,12 @@ ghost use Rattle.bias_file.specs.Limits.{BiasKeeps};
 ghost use Rattle.lef_cells.specs.Limits.{CellsKeep, MacroKeeps};
 ghost use Rattle.def_design.specs.Limits.{DesignKeeps, ComponentKeeps, IsNear};
 ghost use Rattle.grid_pieces.specs.declared.grid.DomainAt.{DomainAt};
-ghost use Rattle.grid_taps.specs.Naming.{macro_names};
-ghost use Rattle.grid_taps.specs.Taps.{is_turned, column_of, regions_of, IsPlaced, AreTapsOf, HasNoTaps};
+ghost use Rattle.grid_taps.specs.Naming.{macro_names, amps_names};
+ghost use Rattle.grid_taps.specs.Taps.{is_turned, column_of, regions_of, IsPlaced, IsRange, AreTapsOf, HasNoTaps};
 ghost use Rattle.grid_taps.specs.Refusals.{TapsStand, AreTapsRefused};
 ghost use Rattle.grid_taps.specs.inside.Rails.{AreRailEntries};
-ghost use Rattle.grid_taps.specs.inside.Tapping.{AreTablesOf, AreAllTapped, IsTapRefused, AddsTaps, AmpsRange, HasNoSeat};
+ghost use Rattle.grid_taps.specs.Tables.{AreTablesOf, AddsTaps, HasNoSeat};
+ghost use Rattle.grid_taps.specs.inside.Tapping.{AreAllTapped, IsTapRefused, AmpsRange};
 
 use crate::column::Column;
 use crate::line::without_cell;
@@ -56,10 +57,10 @@ pub fn taps(
     tap_all(alloc, grid, cells, design, bias, &mut tables)
 }
 
-// What the taps of a component are found by: the rails, the regions of the domains, and the names of macros, of
-// instance lines and of cell lines.
+/// What the taps of a component are found by: the rails, the regions of the domains, and the names of macros, of
+/// instance lines and of cell lines.
 #[derive(Drop)]
-struct Tables<'a> {
+pub struct TapTables<'a> {
     rails: RectIndex<u32>,
     regions: Vec<Option<Rect>>,
     macros: NameTable<'a>,
@@ -67,12 +68,15 @@ struct Tables<'a> {
     cells: NameTable<'a>,
 }
 
-fn tables_of<'a>(
+/// What the taps of the components on a grid are found by.
+///
+/// Error: want of memory.
+pub fn tables_of<'a>(
     alloc: Global,
     grid: &Grid,
     cells: &'a Cells,
     bias: &'a Bias,
-) -> Result<Tables<'a>, AllocError>
+) -> Result<TapTables<'a>, AllocError>
     requires few_pieces { length grid.now.pieces < 2 ^ 32 }
     requires cells { CellsKeep cells.now }
     requires bias { BiasKeeps bias.now }
@@ -83,7 +87,7 @@ fn tables_of<'a>(
     let macros = table_of(alloc, cells.macros.as_slice())?;
     let instances = table_of(alloc, bias.instances.as_slice())?;
     let cells = table_of(alloc, bias.cells.as_slice())?;
-    Ok(Tables {
+    Ok(TapTables {
         rails,
         regions,
         macros,
@@ -105,7 +109,7 @@ fn tap_all<'a>(
     cells: &Cells,
     design: &'a Design,
     bias: &Bias,
-    tables: &mut Tables<'a>,
+    tables: &mut TapTables<'a>,
 ) -> Result<Vec<Tap>, ExtractError>
     requires units { IsUnits grid.now.units }
     requires cells { CellsKeep cells.now }
@@ -129,12 +133,15 @@ fn tap_all<'a>(
     Ok(taps)
 }
 
-// Adds the taps of a component, and tells whether it has those that it needs.
-fn add_taps<'a>(
+/// Adds the taps of a component on the rails of a grid, and tells whether it has those that it needs: one that draws a
+/// current and has no place, no macro, no owner or no rail has not.
+///
+/// Error: want of memory.
+pub fn add_taps<'a>(
     grid: &Grid,
     cells: &Cells,
     bias: &Bias,
-    tables: &mut Tables<'a>,
+    tables: &mut TapTables<'a>,
     component: &'a Component,
     taps: &mut Vec<Tap>,
 ) -> Result<bool, AllocError>
@@ -146,7 +153,7 @@ fn add_taps<'a>(
     ensures taps { IfOk result (AddsTaps grid.now cells.now bias.now component.now taps.old.items taps.new.items) }
     ensures same { OnOk result (tables.new ≡ tables.old) }
 {
-    let range = range_of(&mut tables.instances, &mut tables.cells, bias, component);
+    let range = range_in(tables, bias, component);
     if range.high == 0 {
         return Ok(true);
     }
@@ -160,6 +167,16 @@ fn add_taps<'a>(
     }
 }
 
+/// The range of the current of a component: that of its own line, else that of its cell's, else from 0 to 0.
+pub fn range_in<'a>(tables: &mut TapTables<'a>, bias: &Bias, component: &'a Component) -> Range
+    requires instances { tables.old.instances ≡ amps_names bias.now.instances }
+    requires cells { tables.old.cells ≡ amps_names bias.now.cells }
+    ensures range { IsRange bias.now component.now result.low result.high }
+    ensures same { tables.new ≡ tables.old }
+{
+    range_of(&mut tables.instances, &mut tables.cells, bias, component)
+}
+
 // The two taps of a component.
 #[derive(Clone, Copy, Debug, PartialEq, Eq)]
 struct Pair {
@@ -170,7 +187,7 @@ struct Pair {
 fn pair_of<'a>(
     grid: &Grid,
     cells: &Cells,
-    tables: &mut Tables<'a>,
+    tables: &mut TapTables<'a>,
     component: &'a Component,
     range: Range,
 ) -> Option<Pair>
@@ -204,17 +221,18 @@ fn pair_of<'a>(
     })
 }
 
-// The column over a component, and the domain that owns it.
+/// The column over a component, and the domain that owns it.
 #[derive(Clone, Copy, Debug, PartialEq, Eq)]
-struct Seat {
-    column: Column,
-    domain: DomainAt,
+pub struct Seat {
+    pub column: Column,
+    pub domain: DomainAt,
 }
 
-fn seat_of<'a>(
+/// Where a component stands. None where it is not placed, its cell is no macro, or no domain owns it.
+pub fn seat_of<'a>(
     grid: &Grid,
     cells: &Cells,
-    tables: &mut Tables<'a>,
+    tables: &mut TapTables<'a>,
     component: &'a Component,
 ) -> Option<Seat>
     requires units { IsUnits grid.now.units }

@@ -5,7 +5,7 @@ use Rattle.lef_cells.specs.declared.section.Section.{Section}
 use Rattle.lef_cells.specs.declared.section.Section.TheVariants as places
 use Rattle.lef_cells.specs.declared.sort.Sort.{Sort}
 use Rattle.lef_cells.specs.declared.sort.Sort.TheVariants.{Site, Macro, NamedSection, WordSection, BeginExt, End, Library, Size, By, Class, Pin, Group, Semicolon, Bracket, Quoted, Other, TextEnd}
-use Rattle.lef_cells.specs.Sort.{all_sorts, sort_of, sort_with}
+use Rattle.lef_cells.specs.Sort.{all_sorts, sort_of, sort_with, number_of, listed}
 use Rattle.lef_cells.specs.Section.{section_of, standing_of}
 use Rattle.lef_cells.specs.Rule.{pattern}
 use Rattle.lef_cells.specs.Fault.{SecondFault, fault}
@@ -15,44 +15,28 @@ use Rattle.reading.specs.declared.refusal.Found.{Found}
 use Rattle.reading.specs.declared.word.Form.{Form}
 use Rattle.reading.specs.declared.word.Form.TheVariants.{Bare, Quoted as QuotedForm, End as EndForm}
 use Rattle.reading.specs.Grammar.{IsUnit, IsRegular}
-use Rattle.reading.specs.Laws.{immediate}
+use Rattle.reading.specs.Laws.{immediate, sampled}
 use Rattle.reading.specs.Word.{Token}
 
-word : List ℕ → Form → Token
+abbrev word : List ℕ → Form → Token
 word text form = record { text = text; place = record { line = 1; word = 1 }; form = form }
 
+abbrev samples : List Token
+samples =
+    word (codes "SITE") Bare ∷ word (codes "MACRO") Bare ∷ word (codes "LAYER") Bare ∷ word (codes "UNITS") Bare ∷
+    word (codes "BEGINEXT") Bare ∷ word (codes "END") Bare ∷ word (codes "LIBRARY") Bare ∷ word (codes "SIZE") Bare ∷
+    word (codes "BY") Bare ∷ word (codes "CLASS") Bare ∷ word (codes "PIN") Bare ∷ word (codes "OBS") Bare ∷
+    word (codes ";") Bare ∷ word (codes "(") Bare ∷ word [] QuotedForm ∷ word [] Bare ∷ word [] EndForm ∷ []
+
 sample : (sort : Sort) → (w : Token) × (sort_of w ≡ sort)
-unfolding word
-sample Site = (word (codes "SITE") Bare, refl)
-sample Macro = (word (codes "MACRO") Bare, refl)
-sample NamedSection = (word (codes "LAYER") Bare, refl)
-sample WordSection = (word (codes "UNITS") Bare, refl)
-sample BeginExt = (word (codes "BEGINEXT") Bare, refl)
-sample End = (word (codes "END") Bare, refl)
-sample Library = (word (codes "LIBRARY") Bare, refl)
-sample Size = (word (codes "SIZE") Bare, refl)
-sample By = (word (codes "BY") Bare, refl)
-sample Class = (word (codes "CLASS") Bare, refl)
-sample Pin = (word (codes "PIN") Bare, refl)
-sample Group = (word (codes "OBS") Bare, refl)
-sample Semicolon = (word (codes ";") Bare, refl)
-sample Bracket = (word (codes "(") Bare, refl)
-sample Quoted = (word [] QuotedForm, refl)
-sample Other = (word [] Bare, refl)
-sample TextEnd = (word [] EndForm, refl)
+sample sort = sampled sort_of samples all_sorts (number_of sort) sort refl (listed sort)
 
 usable : Section → Sort → Bool
 usable section sort = true
 
 units_end : (section : Section) → IsUnit all_sorts (usable section) TextEnd (pattern section)
 unfolding usable
-units_end places.Top = record { solid = inr refl; closes = refl; comes_last = refl }
-units_end places.Site = record { solid = inr refl; closes = refl; comes_last = refl }
-units_end places.SizedSite = record { solid = inr refl; closes = refl; comes_last = refl }
-units_end places.Macro = record { solid = inr refl; closes = refl; comes_last = refl }
-units_end places.SizedMacro = record { solid = inr refl; closes = refl; comes_last = refl }
-units_end places.Passed = record { solid = inr refl; closes = refl; comes_last = refl }
-units_end places.Ended = record { solid = inr refl; closes = refl; comes_last = refl }
+units_end = elim [ places.Top ↦ record { solid = inr refl; closes = refl; comes_last = refl } | _ ↦ record { solid = inr refl; closes = refl; comes_last = refl } ]
 
 last : (units : List (List Token)) (part : List Token) (a : Found CellsKind) → fault units part a → a.at + 1 ≡ length part
 last units (first ∷ second ∷ []) a h = ap (λ z. z + 1) h.0

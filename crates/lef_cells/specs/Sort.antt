@@ -2,31 +2,18 @@
 -- words, and the end of the text.
 use Rattle.std.specs.Prelude.{◌≡◌, ℕ, ◌≤◌, ◌==◌, Bool, List, [], ◌∷◌, length, slice_get, Some, codes}
 use Rattle.std.proofs.Common.{refl, arith}
+use denote.Enum.Declared.{tag_of}
 use Rattle.lef_cells.specs.declared.sort.Sort.{Sort}
+use Rattle.lef_cells.specs.contracts.sort.Sort.{the_type}
 use Rattle.lef_cells.specs.declared.sort.Sort.TheVariants.{Site, Macro, NamedSection, WordSection, BeginExt, End, Library, Size, By, Class, Pin, Group, Semicolon, Bracket, Quoted, Other, TextEnd}
 use Rattle.reading.specs.declared.word.Form.{Form}
 use Rattle.reading.specs.declared.word.Form.TheVariants.{Bare, End as EndForm}
 use Rattle.reading.specs.Keyword.{keyword_or}
 use Rattle.reading.specs.Word.{Token}
 
+-- The place of the variant among all.
 abbrev pub number_of : Sort → ℕ
-number_of Site = 0
-number_of Macro = 1
-number_of NamedSection = 2
-number_of WordSection = 3
-number_of BeginExt = 4
-number_of End = 5
-number_of Library = 6
-number_of Size = 7
-number_of By = 8
-number_of Class = 9
-number_of Pin = 10
-number_of Group = 11
-number_of Semicolon = 12
-number_of Bracket = 13
-number_of Quoted = 14
-number_of Other = 15
-number_of TextEnd = 16
+number_of = elim [ Site ↦ 0 | sort ↦ tag_of the_type sort ]
 
 abbrev pub all_sorts : List Sort
 all_sorts =
@@ -41,26 +28,11 @@ the this sort = number_of sort == number_of this
 -- like one that ends with `END` and the same word, `OBS` and `DENSITY` a group that ends with `END`.
 abbrev pub keywords : List (List ℕ × Sort)
 keywords =
-    (codes "SITE", Site)
-    ∷ (codes "MACRO", Macro)
-    ∷ (codes "VIA", NamedSection)
-    ∷ (codes "NONDEFAULTRULE", NamedSection)
-    ∷ (codes "LAYER", NamedSection)
-    ∷ (codes "VIARULE", NamedSection)
-    ∷ (codes "PROPERTYDEFINITIONS", WordSection)
-    ∷ (codes "SPACING", WordSection)
-    ∷ (codes "UNITS", WordSection)
-    ∷ (codes "BEGINEXT", BeginExt)
-    ∷ (codes "END", End)
-    ∷ (codes "LIBRARY", Library)
-    ∷ (codes "SIZE", Size)
-    ∷ (codes "BY", By)
-    ∷ (codes "CLASS", Class)
-    ∷ (codes "PIN", Pin)
-    ∷ (codes "OBS", Group)
-    ∷ (codes "DENSITY", Group)
-    ∷ (codes ";", Semicolon)
-    ∷ (codes "(", Bracket)
+    (codes "SITE", Site) ∷ (codes "MACRO", Macro) ∷ (codes "VIA", NamedSection) ∷ (codes "NONDEFAULTRULE", NamedSection)
+    ∷ (codes "LAYER", NamedSection) ∷ (codes "VIARULE", NamedSection) ∷ (codes "PROPERTYDEFINITIONS", WordSection)
+    ∷ (codes "SPACING", WordSection) ∷ (codes "UNITS", WordSection) ∷ (codes "BEGINEXT", BeginExt) ∷ (codes "END", End)
+    ∷ (codes "LIBRARY", Library) ∷ (codes "SIZE", Size) ∷ (codes "BY", By) ∷ (codes "CLASS", Class) ∷ (codes "PIN", Pin)
+    ∷ (codes "OBS", Group) ∷ (codes "DENSITY", Group) ∷ (codes ";", Semicolon) ∷ (codes "(", Bracket)
     ∷ (codes ")", Bracket) ∷ []
 
 -- The sort of a bare word.
@@ -78,23 +50,7 @@ sort_of word = sort_with word.form word.text
 
 -- Each sort stands in the list at its number, and there are few.
 pub listed : (sort : Sort) → slice_get all_sorts (number_of sort) ≡ Some sort
-listed Site = refl
-listed Macro = refl
-listed NamedSection = refl
-listed WordSection = refl
-listed BeginExt = refl
-listed End = refl
-listed Library = refl
-listed Size = refl
-listed By = refl
-listed Class = refl
-listed Pin = refl
-listed Group = refl
-listed Semicolon = refl
-listed Bracket = refl
-listed Quoted = refl
-listed Other = refl
-listed TextEnd = refl
+listed = elim [ Site ↦ refl | _ ↦ refl ]
 
 pub few : length all_sorts ≤ 64
 few = omega arith

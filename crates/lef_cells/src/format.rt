@@ -34,6 +34,14 @@ impl<'a> Grammar<'a> for CellsFormat {
 
     ghost holds = { λ cells held units. Holds units held };
 
+    fn fault(&self, said: &Held<'a>, unit: &[Word<'a>]) -> Option<Found<CellsKind>> {
+        match unit {
+            [first, second] => found_at(1, second_fault(said, sort_of(first), second.text)),
+            [_, _, _, height] => found_at(3, length_fault(height.text)),
+            _ => None,
+        }
+    }
+
     fn sort(&self, _said: &Held<'a>, word: &Word<'a>) -> Sort {
         sort_of(word)
     }
@@ -44,14 +52,6 @@ impl<'a> Grammar<'a> for CellsFormat {
 
     fn rule(section: Section) -> Rule<'a, Sort> {
         rule(section)
-    }
-
-    fn fault(&self, said: &Held<'a>, unit: &[Word<'a>]) -> Option<Found<CellsKind>> {
-        match unit {
-            [first, second] => found_at(1, second_fault(said, sort_of(first), second.text)),
-            [_, _, _, height] => found_at(3, length_fault(height.text)),
-            _ => None,
-        }
     }
 
     fn ends(&self, said: &Held<'a>) -> bool {

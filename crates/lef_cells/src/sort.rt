@@ -62,27 +62,12 @@ fn sort_of_text(text: &[u8]) -> Sort
     ensures { result ≡ sort_of_text text.now }
 {
     keyword_or!(text;
-        b"SITE" => Sort::Site,
-        b"MACRO" => Sort::Macro,
-        b"VIA" => Sort::NamedSection,
-        b"NONDEFAULTRULE" => Sort::NamedSection,
-        b"LAYER" => Sort::NamedSection,
-        b"VIARULE" => Sort::NamedSection,
-        b"PROPERTYDEFINITIONS" => Sort::WordSection,
-        b"SPACING" => Sort::WordSection,
-        b"UNITS" => Sort::WordSection,
-        b"BEGINEXT" => Sort::BeginExt,
-        b"END" => Sort::End,
-        b"LIBRARY" => Sort::Library,
-        b"SIZE" => Sort::Size,
-        b"BY" => Sort::By,
-        b"CLASS" => Sort::Class,
-        b"PIN" => Sort::Pin,
-        b"OBS" => Sort::Group,
-        b"DENSITY" => Sort::Group,
-        b";" => Sort::Semicolon,
-        b"(" => Sort::Bracket,
-        b")" => Sort::Bracket;
+        b"SITE" => Sort::Site, b"MACRO" => Sort::Macro, b"VIA" => Sort::NamedSection,
+        b"NONDEFAULTRULE" => Sort::NamedSection, b"LAYER" => Sort::NamedSection, b"VIARULE" => Sort::NamedSection,
+        b"PROPERTYDEFINITIONS" => Sort::WordSection, b"SPACING" => Sort::WordSection, b"UNITS" => Sort::WordSection,
+        b"BEGINEXT" => Sort::BeginExt, b"END" => Sort::End, b"LIBRARY" => Sort::Library, b"SIZE" => Sort::Size,
+        b"BY" => Sort::By, b"CLASS" => Sort::Class, b"PIN" => Sort::Pin, b"OBS" => Sort::Group,
+        b"DENSITY" => Sort::Group, b";" => Sort::Semicolon, b"(" => Sort::Bracket, b")" => Sort::Bracket;
         Sort::Other)
 }
 

@@ -11,7 +11,7 @@ use Rattle.macro_blocks.specs.Fault.{Unless, Misplaced, NoCoordinate, OtherOrigi
 use Rattle.macro_blocks.specs.Format.{format, section_of}
 use Rattle.macro_blocks.specs.Record.{heard_of}
 use Rattle.macro_blocks.specs.Rule.{is_name, is_number, pattern}
-use Rattle.macro_blocks.specs.Sort.{all_sorts, the, sort_of, sort_with}
+use Rattle.macro_blocks.specs.Sort.{all_sorts, the, sort_of, sort_with, number_of, listed}
 use Rattle.macro_blocks.specs.Standing.{is_known, is_own, section_in}
 use Rattle.macro_blocks.proofs.Numbers.{HasOne, not_both, one_error, one_bad, none_bad}
 use Rattle.lef_statements.specs.Word.{is_word}
@@ -19,50 +19,30 @@ use Rattle.reading.specs.declared.refusal.Found.{Found}
 use Rattle.reading.specs.declared.word.Form.{Form}
 use Rattle.reading.specs.declared.word.Form.TheVariants.{Bare, Quoted as QuotedForm, End as EndForm}
 use Rattle.reading.specs.Grammar.{IsUnit, IsRegular}
-use Rattle.reading.specs.Laws.{immediate}
+use Rattle.reading.specs.Laws.{immediate, sampled}
 use Rattle.reading.specs.Word.{Token}
 
-word : List ℕ → Form → Token
+abbrev word : List ℕ → Form → Token
 word text form = record { text = text; place = record { line = 1; word = 1 }; form = form }
 
+abbrev samples : List Token
+samples =
+    word (codes "MACRO") Bare ∷ word (codes "SITE") Bare ∷ word (codes "LAYER") Bare ∷ word (codes "UNITS") Bare ∷
+    word (codes "BEGINEXT") Bare ∷ word (codes "END") Bare ∷ word (codes "LIBRARY") Bare ∷
+    word (codes "ORIGIN") Bare ∷ word (codes "PIN") Bare ∷ word (codes "PORT") Bare ∷ word (codes "USE") Bare ∷
+    word (codes "POWER") Bare ∷ word (codes "GROUND") Bare ∷ word (codes "RECT") Bare ∷ word (codes "OBS") Bare ∷
+    word (codes "DENSITY") Bare ∷ word (codes ";") Bare ∷ word (codes "(") Bare ∷ word [] QuotedForm ∷ word [] Bare ∷
+    word [] EndForm ∷ []
+
 sample : (sort : Sort) → (w : Token) × (sort_of w ≡ sort)
-unfolding word
-sample Macro = (word (codes "MACRO") Bare, refl)
-sample NamedSection = (word (codes "SITE") Bare, refl)
-sample Layer = (word (codes "LAYER") Bare, refl)
-sample WordSection = (word (codes "UNITS") Bare, refl)
-sample BeginExt = (word (codes "BEGINEXT") Bare, refl)
-sample End = (word (codes "END") Bare, refl)
-sample Library = (word (codes "LIBRARY") Bare, refl)
-sample Origin = (word (codes "ORIGIN") Bare, refl)
-sample Pin = (word (codes "PIN") Bare, refl)
-sample Port = (word (codes "PORT") Bare, refl)
-sample Use = (word (codes "USE") Bare, refl)
-sample Power = (word (codes "POWER") Bare, refl)
-sample Ground = (word (codes "GROUND") Bare, refl)
-sample Rect = (word (codes "RECT") Bare, refl)
-sample Obs = (word (codes "OBS") Bare, refl)
-sample Density = (word (codes "DENSITY") Bare, refl)
-sample Semicolon = (word (codes ";") Bare, refl)
-sample Bracket = (word (codes "(") Bare, refl)
-sample Quoted = (word [] QuotedForm, refl)
-sample Other = (word [] Bare, refl)
-sample TextEnd = (word [] EndForm, refl)
+sample sort = sampled sort_of samples all_sorts (number_of sort) sort refl (listed sort)
 
 usable : Section → Sort → Bool
 usable section this = true
 
 units_end : (section : Section) → IsUnit all_sorts (usable section) TextEnd (pattern section)
 unfolding usable
-units_end places.Top = record { solid = inr refl; closes = refl; comes_last = refl }
-units_end places.Macro = record { solid = inr refl; closes = refl; comes_last = refl }
-units_end places.Pin = record { solid = inr refl; closes = refl; comes_last = refl }
-units_end places.Supplied = record { solid = inr refl; closes = refl; comes_last = refl }
-units_end places.Port = record { solid = inr refl; closes = refl; comes_last = refl }
-units_end places.Layered = record { solid = inr refl; closes = refl; comes_last = refl }
-units_end places.Unfit = record { solid = inr refl; closes = refl; comes_last = refl }
-units_end places.Passed = record { solid = inr refl; closes = refl; comes_last = refl }
-units_end places.Ended = record { solid = inr refl; closes = refl; comes_last = refl }
+units_end = elim [ places.Top ↦ record { solid = inr refl; closes = refl; comes_last = refl } | _ ↦ record { solid = inr refl; closes = refl; comes_last = refl } ]
 
 last : (section : Section) (standing : Standing) (numbers part : List Token) (a : Found Shown) → fault_in section standing numbers part a → a.at + 1 ≡ length part
 last section standing numbers (first ∷ []) a h = ap (λ z. z + 1) h.0

@@ -2,35 +2,18 @@
 -- words, and the end of the text.
 use Rattle.std.specs.Prelude.{◌≡◌, ℕ, ◌≤◌, ◌==◌, Bool, List, [], ◌∷◌, length, slice_get, Some, codes}
 use Rattle.std.proofs.Common.{refl, arith}
+use denote.Enum.Declared.{tag_of}
 use Rattle.macro_blocks.specs.declared.sort.Sort.{Sort}
+use Rattle.macro_blocks.specs.contracts.sort.Sort.{the_type}
 use Rattle.macro_blocks.specs.declared.sort.Sort.TheVariants.{Macro, NamedSection, Layer, WordSection, BeginExt, End, Library, Origin, Pin, Port, Use, Power, Ground, Rect, Obs, Density, Semicolon, Bracket, Quoted, Other, TextEnd}
 use Rattle.reading.specs.declared.word.Form.{Form}
 use Rattle.reading.specs.declared.word.Form.TheVariants.{Bare, End as EndForm}
 use Rattle.reading.specs.Keyword.{keyword_or}
 use Rattle.reading.specs.Word.{Token}
 
+-- The place of the variant among all.
 abbrev pub number_of : Sort → ℕ
-number_of Macro = 0
-number_of NamedSection = 1
-number_of Layer = 2
-number_of WordSection = 3
-number_of BeginExt = 4
-number_of End = 5
-number_of Library = 6
-number_of Origin = 7
-number_of Pin = 8
-number_of Port = 9
-number_of Use = 10
-number_of Power = 11
-number_of Ground = 12
-number_of Rect = 13
-number_of Obs = 14
-number_of Density = 15
-number_of Semicolon = 16
-number_of Bracket = 17
-number_of Quoted = 18
-number_of Other = 19
-number_of TextEnd = 20
+number_of = elim [ Macro ↦ 0 | sort ↦ tag_of the_type sort ]
 
 abbrev pub all_sorts : List Sort
 all_sorts =
@@ -45,29 +28,12 @@ the this sort = number_of sort == number_of this
 -- in the library; `UNITS` and its like begin one that ends with `END` and the same word.
 abbrev pub keywords : List (List ℕ × Sort)
 keywords =
-    (codes ";", Semicolon)
-    ∷ (codes "RECT", Rect)
-    ∷ (codes "LAYER", Layer)
-    ∷ (codes "END", End)
-    ∷ (codes "MACRO", Macro)
-    ∷ (codes "SITE", NamedSection)
-    ∷ (codes "VIA", NamedSection)
-    ∷ (codes "NONDEFAULTRULE", NamedSection)
-    ∷ (codes "VIARULE", NamedSection)
-    ∷ (codes "PROPERTYDEFINITIONS", WordSection)
-    ∷ (codes "SPACING", WordSection)
-    ∷ (codes "UNITS", WordSection)
-    ∷ (codes "BEGINEXT", BeginExt)
-    ∷ (codes "LIBRARY", Library)
-    ∷ (codes "ORIGIN", Origin)
-    ∷ (codes "PIN", Pin)
-    ∷ (codes "PORT", Port)
-    ∷ (codes "USE", Use)
-    ∷ (codes "POWER", Power)
-    ∷ (codes "GROUND", Ground)
-    ∷ (codes "OBS", Obs)
-    ∷ (codes "DENSITY", Density)
-    ∷ (codes "(", Bracket)
+    (codes ";", Semicolon) ∷ (codes "RECT", Rect) ∷ (codes "LAYER", Layer) ∷ (codes "END", End) ∷ (codes "MACRO", Macro)
+    ∷ (codes "SITE", NamedSection) ∷ (codes "VIA", NamedSection) ∷ (codes "NONDEFAULTRULE", NamedSection)
+    ∷ (codes "VIARULE", NamedSection) ∷ (codes "PROPERTYDEFINITIONS", WordSection) ∷ (codes "SPACING", WordSection)
+    ∷ (codes "UNITS", WordSection) ∷ (codes "BEGINEXT", BeginExt) ∷ (codes "LIBRARY", Library)
+    ∷ (codes "ORIGIN", Origin) ∷ (codes "PIN", Pin) ∷ (codes "PORT", Port) ∷ (codes "USE", Use) ∷ (codes "POWER", Power)
+    ∷ (codes "GROUND", Ground) ∷ (codes "OBS", Obs) ∷ (codes "DENSITY", Density) ∷ (codes "(", Bracket)
     ∷ (codes ")", Bracket) ∷ []
 
 -- The sort of a bare word.
@@ -85,27 +51,7 @@ sort_of word = sort_with word.form word.text
 
 -- Each sort stands in the list at its number, and there are few.
 pub listed : (sort : Sort) → slice_get all_sorts (number_of sort) ≡ Some sort
-listed Macro = refl
-listed NamedSection = refl
-listed Layer = refl
-listed WordSection = refl
-listed BeginExt = refl
-listed End = refl
-listed Library = refl
-listed Origin = refl
-listed Pin = refl
-listed Port = refl
-listed Use = refl
-listed Power = refl
-listed Ground = refl
-listed Rect = refl
-listed Obs = refl
-listed Density = refl
-listed Semicolon = refl
-listed Bracket = refl
-listed Quoted = refl
-listed Other = refl
-listed TextEnd = refl
+listed = elim [ Macro ↦ refl | _ ↦ refl ]
 
 pub few : length all_sorts ≤ 64
 few = omega arith

@@ -34,18 +34,6 @@ impl<'a> Grammar<'a> for BlocksFormat {
 
     ghost holds = { λ blocks held units. Holds units held };
 
-    fn sort(&self, _said: &Held<'a>, word: &Word<'a>) -> Sort {
-        sort_of(word)
-    }
-
-    fn section(&self, said: &Held<'a>) -> Section {
-        said.standing.section()
-    }
-
-    fn rule(section: Section) -> Rule<'a, Sort> {
-        rule(section)
-    }
-
     fn fault(&self, said: &Held<'a>, unit: &[Word<'a>]) -> Option<Found<Shown>> {
         let section = said.standing.section();
         let standing = &said.standing;
@@ -65,6 +53,18 @@ impl<'a> Grammar<'a> for BlocksFormat {
             [_, _, _, _, _, stop] => found_at(5, stop_fault(section, standing, stop)),
             _ => None,
         }
+    }
+
+    fn sort(&self, _said: &Held<'a>, word: &Word<'a>) -> Sort {
+        sort_of(word)
+    }
+
+    fn section(&self, said: &Held<'a>) -> Section {
+        said.standing.section()
+    }
+
+    fn rule(section: Section) -> Rule<'a, Sort> {
+        rule(section)
     }
 
     fn ends(&self, said: &Held<'a>) -> bool {

@@ -4,6 +4,21 @@ ghost use Rattle.reading.specs.Word.{token};
 
 use reading::{Form, Numbered, Word, keyword_or};
 
+/// The sort of a bare word.
+fn sort_of_text(text: &[u8]) -> Sort
+    ensures { result ≡ sort_of_text text.now }
+{
+    keyword_or!(text;
+        b";" => Sort::Semicolon, b"RECT" => Sort::Rect, b"LAYER" => Sort::Layer, b"END" => Sort::End,
+        b"MACRO" => Sort::Macro, b"SITE" => Sort::NamedSection, b"VIA" => Sort::NamedSection,
+        b"NONDEFAULTRULE" => Sort::NamedSection, b"VIARULE" => Sort::NamedSection,
+        b"PROPERTYDEFINITIONS" => Sort::WordSection, b"SPACING" => Sort::WordSection, b"UNITS" => Sort::WordSection,
+        b"BEGINEXT" => Sort::BeginExt, b"LIBRARY" => Sort::Library, b"ORIGIN" => Sort::Origin, b"PIN" => Sort::Pin,
+        b"PORT" => Sort::Port, b"USE" => Sort::Use, b"POWER" => Sort::Power, b"GROUND" => Sort::Ground,
+        b"OBS" => Sort::Obs, b"DENSITY" => Sort::Density, b"(" => Sort::Bracket, b")" => Sort::Bracket;
+        Sort::Other)
+}
+
 /// What a word of a LEF library is, wherever it stands.
 #[derive(Clone, Copy, Debug)]
 pub(crate) enum Sort {
@@ -51,6 +66,17 @@ pub(crate) enum Sort {
     TextEnd,
 }
 
+/// The sort of a word.
+pub(crate) fn sort_of(word: &Word<'_>) -> Sort
+    ensures { result ≡ sort_of (token word.now) }
+{
+    match word.form {
+        Form::Bare => sort_of_text(word.text),
+        Form::End => Sort::TextEnd,
+        _ => Sort::Quoted,
+    }
+}
+
 impl Numbered for Sort {
     ghost number = { number_of };
 
@@ -63,47 +89,4 @@ impl Numbered for Sort {
     ghost listed = { listed };
 
     ghost few = { few };
-}
-
-/// The sort of a bare word.
-fn sort_of_text(text: &[u8]) -> Sort
-    ensures { result ≡ sort_of_text text.now }
-{
-    keyword_or!(text;
-        b";" => Sort::Semicolon,
-        b"RECT" => Sort::Rect,
-        b"LAYER" => Sort::Layer,
-        b"END" => Sort::End,
-        b"MACRO" => Sort::Macro,
-        b"SITE" => Sort::NamedSection,
-        b"VIA" => Sort::NamedSection,
-        b"NONDEFAULTRULE" => Sort::NamedSection,
-        b"VIARULE" => Sort::NamedSection,
-        b"PROPERTYDEFINITIONS" => Sort::WordSection,
-        b"SPACING" => Sort::WordSection,
-        b"UNITS" => Sort::WordSection,
-        b"BEGINEXT" => Sort::BeginExt,
-        b"LIBRARY" => Sort::Library,
-        b"ORIGIN" => Sort::Origin,
-        b"PIN" => Sort::Pin,
-        b"PORT" => Sort::Port,
-        b"USE" => Sort::Use,
-        b"POWER" => Sort::Power,
-        b"GROUND" => Sort::Ground,
-        b"OBS" => Sort::Obs,
-        b"DENSITY" => Sort::Density,
-        b"(" => Sort::Bracket,
-        b")" => Sort::Bracket;
-        Sort::Other)
-}
-
-/// The sort of a word.
-pub(crate) fn sort_of(word: &Word<'_>) -> Sort
-    ensures { result ≡ sort_of (token word.now) }
-{
-    match word.form {
-        Form::Bare => sort_of_text(word.text),
-        Form::End => Sort::TextEnd,
-        _ => Sort::Quoted,
-    }
 }

@@ -1,12 +1,11 @@
--- The network of a drawn grid reads back once it is written.
+-- A network of a grid reads back once it is written.
 use Rattle.std.proofs.Common.{◌≡◌, ◌≢◌, ◌⊎◌, inl, inr, ℕ, zero, suc, ◌+◌, ◌-◌, ◌/◌, ◌%◌, ◌<◌, ◌≤◌, ◌==◌, ◌&&◌, ◌||◌, not, Bool, true, false, cond, eqb, eqb-true, eq-eqb, ltb, ℤ, pos, negsuc, neg_ℤ, ◌≤ℤ◌, List, [], ◌∷◌, ◌++◌, length, map, codes, get_or, slice_get, All, Contains, Option, None, Some, refl, sym, ◌∙◌, ap, subst, arith}
 use Rattle.std.specs.Prelude.{Any, decimal, if◌then◌else◌}
 use Rattle.std.specs.Fmt.{digits, digits_onto, digit_glyph, signed_decimal}
 use Rattle.std.specs.List.{AllByRecursion, list_all}
 use Rattle.std.specs.Option.{option_map}
-use Rattle.std.proofs.lemmas.Int.{ints}
 use Rattle.std.proofs.lemmas.List.{get_or_default, length-map, get_or-map}
-use Rattle.std.proofs.lemmas.List.Elements.{All-nil, All-cons, All-append, All-contains, All-map, All-from_get_or, Contains-get_or}
+use Rattle.std.proofs.lemmas.List.Elements.{All-contains, All-map, Contains-get_or}
 use Rattle.std.proofs.lemmas.Option.{get_or_from_slice_get, slice_get_within}
 use Rattle.std.proofs.lemmas.Str.Ascii.{lowercase_is}
 use Rattle.text_lex.specs.Bytes.{line_feed, is_white, is_plain, count_of}
@@ -15,34 +14,22 @@ use Rattle.text_lex.specs.Name.{IsName}
 use Rattle.text_lex.specs.Piece.{IsBare}
 use Rattle.node_names.specs.Folding.{folded}
 use Rattle.name_table.specs.ByteOrder.{IsInByteOrder}
-use Rattle.bias_file.specs.declared.record.Bias.{Bias}
-use Rattle.bias_file.specs.declared.record.Amps.{Amps}
-use Rattle.bias_file.specs.Limits.{BiasKeeps, AmpsKeep}
-use Rattle.def_design.specs.declared.record.Component.{Component}
-use Rattle.def_design.specs.declared.record.Design.{Design}
-use Rattle.lef_cells.specs.declared.record.Cells.{Cells}
 use Rattle.lef_tech.specs.declared.layer.RoutingLayer.{RoutingLayer}
 use Rattle.lef_tech.specs.declared.tech.Tech.{Tech}
 use Rattle.grid_pieces.specs.declared.grid.Grid.{Grid}
 use Rattle.grid_net.specs.declared.note.Note.{Note}
 use Rattle.grid_net.specs.declared.part.Resistor.{Resistor}
 use Rattle.grid_net.specs.declared.part.Pad.{Pad}
-use Rattle.grid_net.specs.declared.part.Load.{Load}
-use Rattle.grid_net.specs.Building.{network_of, first_net_refusal, KeepsLimits}
 use Rattle.grid_net.specs.Level.{AreJoined, IsWithin, IsSupplied}
 use Rattle.grid_net.specs.Limits.{IsBuilt}
 use Rattle.grid_net.specs.Network.{Network, first_pad, stands_at}
 use Rattle.grid_network.specs.declared.extracted.Extracted.{Extracted}
 use Rattle.grid_network.specs.declared.key.Key.{Key}
-use Rattle.grid_network.specs.declared.pad.PadOn.{PadOn}
-use Rattle.grid_network.specs.declared.pad.Tap.{Tap}
-use Rattle.grid_network.specs.Drawing.{Drawing, key_at}
+use Rattle.grid_network.specs.Drawing.{Drawing}
 use Rattle.grid_network.specs.Layers.{IsNoteOf}
-use Rattle.grid_network.specs.Network.{IsNetworkOf, resistors_of, pads_of, loads_of}
-use Rattle.grid_network.specs.Nodes.{layer_number, name_of, number_of}
-use Rattle.grid_taps.specs.Pads.{InOrder}
-use Rattle.grid_taps.specs.Taps.{IsLine, IsRange, AreTapsOf, AreTapsFor, AreTaps}
-use Rattle.grid_extract.specs.Extraction.{IsExtracted, drawing_of}
+use Rattle.grid_network.specs.Network.{IsNetworkOf, IsNetworkOn}
+use Rattle.grid_network.specs.Nodes.{layer_number, name_of}
+use Rattle.grid_extract.specs.Extraction.{drawing_of}
 use Rattle.spice_grid.specs.Named.{ground}
 use Rattle.written_netlists.specs.Fits.{IsNodeName, IsOnOneLine, HasCard, CanBeWritten}
 use Rattle.network_texts.specs.Texts.{AreNames}
@@ -185,50 +172,12 @@ within_card net zero i h = inr (inl (any_pad net.pads i h.0 h.1))
 within_card net (suc k) i (inl h) = within_card net k i h
 within_card net (suc k) i (inr (j, l, joined, h)) = inl (on_resistor net i j joined)
 
--- ## the ranges of taps rise
-
-all_in_order : {S E : Type 0} (gives : S → List E → Type 0) (P : E → Type 0) → ((s : S) (es : List E) → gives s es → All P es) → (ss : List S) (es : List E) →
-    InOrder gives ss es → All P es
-all_in_order {S} {E} gives P each [] es none = subst (λ (z : List E). All P z) (sym none) (All-nil P)
-all_in_order {S} {E} gives P each (s ∷ ss) es (first, rest, given, others, join) =
-    subst (λ (z : List E). All P z) (sym join) (All-append P first rest (each s first given) (all_in_order gives P each ss rest others))
-
-line_rises : (lines : List Amps) → All AmpsKeep lines → (name : List ℕ) (low high : ℤ) → IsLine lines name low high → low ≤ℤ high
-line_rises lines keep name low high (a, in_a, (_, is_low, is_high)) =
-    let keeps = All-contains AmpsKeep lines a keep in_a in
-    let rises : a.low ≤ℤ a.high = keeps.1 in
-    subst (λ z. z ≤ℤ high) is_low (subst (λ z. a.low ≤ℤ z) is_high rises)
-
-range_rises : (bias : Bias) → BiasKeeps bias → (component : Component) (low high : ℤ) → IsRange bias component low high → low ≤ℤ high
-range_rises bias keeps component low high (inl h) = line_rises bias.instances keeps.instances component.name low high h
-range_rises bias keeps component low high (inr (inl h)) = line_rises bias.cells keeps.cells component.cell low high h.1
-range_rises bias keeps component low high (inr (inr h)) = let is_low = h.2 in let is_high = h.3 in omega (arith, ints)
-
-abbrev Rises : Tap → Type 0
-Rises t = t.low ≤ℤ t.high
-
-taps_of_one : (grid : Grid) (cells : Cells) (bias : Bias) → BiasKeeps bias → (component : Component) (taps : List Tap) → AreTapsFor grid cells bias component taps → All Rises taps
-taps_of_one grid cells bias keeps component taps (low, high, range, inl (_, none)) = subst (All Rises) (sym none) (All-nil Rises)
-taps_of_one grid cells bias keeps component taps (low, high, range, inr (_, are)) =
-    let rises = range_rises bias keeps component low high range in
-    let power : Tap = record { piece = are.power; along = are.column.x; low = low; high = high } in
-    let back : Tap = record { piece = are.ground; along = are.column.x; low = neg_ℤ high; high = neg_ℤ low } in
-    subst (All Rises) (sym are.are) (All-cons Rises power (back ∷ []) rises (All-cons Rises back [] (omega (arith, ints)) (All-nil Rises)))
-
-taps_rise : (grid : Grid) (cells : Cells) (bias : Bias) → BiasKeeps bias → (components : List Component) (taps : List Tap) → AreTaps grid cells bias components taps → All Rises taps
-taps_rise grid cells bias keeps components taps are =
-    all_in_order (AreTapsFor grid cells bias) Rises (λ component ts h. taps_of_one grid cells bias keeps component ts h) components taps are
-
 -- ## the whole
 
--- The laws of networks and of drawn grids, as they are handed in.
+-- The laws of the names of nodes, as they are handed in.
 pub record ExtractLaws : Type 0 where
-  pub limits : (nodes : ℕ) (resistors : List Resistor) (pads : List Pad) (loads : List Load) → first_net_refusal nodes resistors pads loads ≡ None → KeepsLimits nodes resistors pads loads
-  pub is_built : (nodes : ℕ) (resistors : List Resistor) (pads : List Pad) (loads : List Load) → KeepsLimits nodes resistors pads loads →
-      All (λ (l : Load). l.low ≤ℤ l.high) loads → IsBuilt (network_of nodes resistors pads loads)
-  pub names : (tech : Tech) (cells : Cells) (design : Design) (grid : Grid) (bias : Bias) (e : Extracted) → IsExtracted grid tech cells design bias e → length e.names ≡ e.net.nodes
-  pub words : (tech : Tech) (cells : Cells) (design : Design) (grid : Grid) (bias : Bias) (e : Extracted) → IsExtracted grid tech cells design bias e →
-      All (λ name. IsBare Lines true name []) e.names
+  pub names : (tech : Tech) (grid : Grid) (e : Extracted) → IsNetworkOn grid tech e → length e.names ≡ e.net.nodes
+  pub words : (tech : Tech) (grid : Grid) (e : Extracted) → IsNetworkOn grid tech e → All (λ name. IsBare Lines true name []) e.names
 
 word_at : (layers : ℕ) (keys : List Key) → All (λ name. IsBare Lines true name []) (map (name_of layers) keys) → (k : ℕ) (key : Key) → k < length keys →
     IsBare Lines true (name_of layers (get_or keys k key)) []
@@ -236,30 +185,19 @@ word_at layers keys words k key l =
     subst (λ name. IsBare Lines true name []) (get_or-map (name_of layers) keys k key (name_of layers key) l)
     (words k (name_of layers key) (omega (arith, l, length-map keys (name_of layers))))
 
-module _ (laws : ExtractLaws) (tech : Tech) (cells : Cells) (design : Design) (grid : Grid) (bias : Bias) (e : Extracted) (keeps : BiasKeeps bias) (named : AreNames tech grid)
-    (is : IsExtracted grid tech cells design bias e) (supplied : (node : ℕ) → node < e.net.nodes → IsSupplied e.net node) where
+module _ (laws : ExtractLaws) (tech : Tech) (grid : Grid) (e : Extracted) (named : AreNames tech grid) (is : IsNetworkOn grid tech e) (built : IsBuilt e.net)
+    (supplied : (node : ℕ) → node < e.net.nodes → IsSupplied e.net node) where
   abbrev d : Drawing
   d = drawing_of grid is.pads is.taps
 
   network : IsNetworkOf d tech e
   network = is.network
 
-  built : IsBuilt e.net
-  built =
-      let segments = network.segments in
-      let loads : List Load = loads_of d e.keys in
-      let nodes : ℕ = length e.keys in
-      let limits = laws.limits nodes (resistors_of e.keys segments) (pads_of d e.keys) loads network.not_refused in
-      let ranges : All (λ (l : Load). l.low ≤ℤ l.high) loads =
-      All-map (λ (l : Load). l.low ≤ℤ l.high) (λ (t : Tap). record { node = number_of e.keys (key_at grid.pieces t.piece t.along); low = t.low; high = t.high }) is.taps
-      (taps_rise grid cells bias keeps design.components is.taps is.stand.taps_are) in
-      subst IsBuilt (sym network.net) (laws.is_built nodes (resistors_of e.keys segments) (pads_of d e.keys) loads limits ranges)
-
   node_names : All IsNodeName e.names
   node_names =
       let layers : ℕ = length tech.routing in
       let words : All (λ name. IsBare Lines true name []) (map (name_of layers) e.keys) =
-      subst (All (λ name. IsBare Lines true name [])) network.names (laws.words tech cells design grid bias e is) in
+      subst (All (λ name. IsBare Lines true name [])) network.names (laws.words tech grid e is) in
       subst (All IsNodeName) (sym network.names)
       (All-map IsNodeName (name_of layers) e.keys
       (λ k key l. node_name layers (get_or e.keys k key) (word_at layers e.keys words k key l)))
@@ -267,7 +205,7 @@ module _ (laws : ExtractLaws) (tech : Tech) (cells : Cells) (design : Design) (g
   pub can_be_written : CanBeWritten e.net e.names e.notes
   can_be_written = record {
     built = built;
-    one_name_a_node = laws.names tech cells design grid bias e is;
+    one_name_a_node = laws.names tech grid e is;
     node_names = node_names;
     in_byte_order = subst IsInByteOrder (sym network.names) network.nodes.in_order;
     each_has_a_card = λ node l. (let h = supplied node l in within_card e.net h.0 node h.1);

@@ -2,20 +2,17 @@
 ghost use Rattle.std.specs.Prelude.{◌≡◌, ◌≢◌, ◌<◌, ℕ, ℤ, List, length};
 ghost use Rattle.answers.specs.declared.answer.Answer.{Answer as Told};
 ghost use Rattle.answers.specs.declared.answer.Answer.TheVariants.{Want, Certified};
-ghost use Rattle.bias_file.specs.declared.record.Bias.{Bias};
-ghost use Rattle.bias_file.specs.Limits.{BiasKeeps};
 ghost use Rattle.certificate_file.specs.Record.{lists_of};
 ghost use Rattle.certificate_file.specs.Written.{certificate_text};
-ghost use Rattle.def_design.specs.declared.record.Design.{Design};
-ghost use Rattle.grid_extract.specs.Extraction.{IsExtracted};
 ghost use Rattle.grid_net.specs.Level.{IsSupplied};
+ghost use Rattle.grid_net.specs.Limits.{IsBuilt};
 ghost use Rattle.grid_net.specs.Network.{Network};
 ghost use Rattle.grid_net.specs.declared.note.Note.{Note};
 ghost use Rattle.grid_network.specs.declared.extracted.Extracted.{Extracted};
+ghost use Rattle.grid_network.specs.Network.{IsNetworkOn};
 ghost use Rattle.grid_pieces.specs.declared.grid.Grid.{Grid};
 ghost use Rattle.judging.specs.Judging.{Judges, Tests};
 ghost use Rattle.judging.specs.Texts.{StandFor};
-ghost use Rattle.lef_cells.specs.declared.record.Cells.{Cells};
 ghost use Rattle.lef_tech.specs.declared.tech.Tech.{Tech};
 ghost use Rattle.spice_grid.specs.Written.{written_netlist};
 ghost use Rattle.written_netlists.specs.Fits.{CanBeWritten, read_back};
@@ -24,20 +21,16 @@ ghost use Rattle.network_texts.specs.Texts.{AreNames, CanBeChecked};
 
 use certificate_file::{texts_have_one_certificate, written_certificates_read_back};
 use drawn_grids::{each_node_has_a_name, names_are_words};
-use grid_net::{built_network, no_net_refusal};
 use judging::texts_are_judged_once;
 use outside::Name;
 use written_netlists::{nothing_to_merge, written_netlists_read_back};
 
-/// The network of a drawn grid reads back once it is written, where each of its nodes is supplied: then each node is an
-/// end of a resistor or a pad. The names of layers and nets are names of LEF and DEF.
+/// A network of a grid reads back once it is written, where each of its nodes is supplied: then each node is an end of a
+/// resistor or a pad. The network is one that was built, and the names of layers and nets are names of LEF and DEF.
 pub fn extracted_networks_can_be_written()
-    ensures { (tech : Tech) (cells : Cells) (design : Design) (grid : Grid) (bias : Bias) (e : Extracted) → BiasKeeps bias
-        → AreNames tech grid → IsExtracted grid tech cells design bias e
+    ensures { (tech : Tech) (grid : Grid) (e : Extracted) → AreNames tech grid → IsNetworkOn grid tech e → IsBuilt e.net
         → ((node : ℕ) → node < e.net.nodes → IsSupplied e.net node) → CanBeWritten e.net e.names e.notes }
 {
-    built_network();
-    no_net_refusal();
     each_node_has_a_name();
     names_are_words();
 }

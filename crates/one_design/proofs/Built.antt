@@ -7,35 +7,25 @@ use Rattle.building.specs.Inputs.{FiveTexts}
 use Rattle.building.specs.Reading.{IsUnread}
 use Rattle.building.specs.Refusal.{DrawsNoGrid, HasNoNetwork, LacksSupply, IsUnbuilt}
 use Rattle.one_design.specs.Same.{AreSameButCertificates}
-use Rattle.one_design.proofs.Records.{AreReaders, One, Apart, one_of_two, one_unread, unread_or_read, same_records}
+use Rattle.one_design.specs.Laws.Causes.{Apart, one_of_four}
+use Rattle.one_design.proofs.Records.{AreReaders, one_unread, unread_or_read, same_records}
 use Rattle.one_design.proofs.Stages.{AreStages, same_grid, same_network, same_limits, one_undrawn, one_unextracted, one_unsupplied, undrawn_or_drawn, unextracted_or_extracted, unsupplied_or_supplied}
 
 module _ (readers : AreReaders) (stages : AreStages) (t : FiveTexts) where
-  abbrev FromNetwork : Answer → Type 0
-  FromNetwork a = HasNoNetwork t a ⊎ LacksSupply t a
-
-  abbrev FromGrid : Answer → Type 0
-  FromGrid a = DrawsNoGrid t a ⊎ FromNetwork a
-
-  from_network : One FromNetwork
-  from_network =
-      one_of_two (HasNoNetwork t) (LacksSupply t) (one_unextracted readers stages t) (one_unsupplied readers stages t)
-      (λ a b x y. unextracted_or_extracted readers stages t a x y.records y.reads y.grid y.draws y.extracted y.network)
-
-  grid_before : Apart (DrawsNoGrid t) FromNetwork
-  grid_before a b x (inl y) = undrawn_or_drawn readers stages t a x y.records y.reads y.grid y.draws
-  grid_before a b x (inr y) = undrawn_or_drawn readers stages t a x y.records y.reads y.grid y.draws
-
-  from_grid : One FromGrid
-  from_grid = one_of_two (DrawsNoGrid t) FromNetwork (one_undrawn readers stages t) from_network grid_before
-
-  text_before : Apart (IsUnread t) FromGrid
+  text_before : Apart (IsUnread t) (λ a. DrawsNoGrid t a ⊎ (HasNoNetwork t a ⊎ LacksSupply t a))
   text_before a b x (inl y) = unread_or_read readers t a y.records x y.reads
   text_before a b x (inr (inl y)) = unread_or_read readers t a y.records x y.reads
   text_before a b x (inr (inr y)) = unread_or_read readers t a y.records x y.reads
 
+  grid_before : Apart (DrawsNoGrid t) (λ a. HasNoNetwork t a ⊎ LacksSupply t a)
+  grid_before a b x (inl y) = undrawn_or_drawn readers stages t a x y.records y.reads y.grid y.draws
+  grid_before a b x (inr y) = undrawn_or_drawn readers stages t a x y.records y.reads y.grid y.draws
+
   pub refusal : (a b : Answer) → IsUnbuilt t a → IsUnbuilt t b → a ≢ Want → b ≢ Want → a ≡ b
-  refusal a b x y some_a some_b = one_of_two (IsUnread t) FromGrid (one_unread readers t) from_grid text_before a b some_a some_b x y
+  refusal a b x y some_a some_b =
+      one_of_four (IsUnread t) (DrawsNoGrid t) (HasNoNetwork t) (LacksSupply t)
+      (one_unread readers t) (one_undrawn readers stages t) (one_unextracted readers stages t) (one_unsupplied readers stages t)
+      text_before grid_before (λ a b x y. unextracted_or_extracted readers stages t a x y.records y.reads y.grid y.draws y.extracted y.network) a b some_a some_b x y
 
   pub apart : (told : Option (List ℤ × List ℤ)) (design : Design) (a : Answer) → IsDesignOf told t design → IsUnbuilt t a → a ≡ Want
   apart told design a is (inl x) = unread_or_read readers t a design.records x is.records

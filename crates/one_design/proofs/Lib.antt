@@ -1,4 +1,4 @@
-mod Texts
+mod Readings
 mod Records
 mod Stages
 mod Built

@@ -32,7 +32,8 @@ use Rattle.building.specs.Inputs.{FiveTexts}
 use Rattle.building.specs.Reading.{AreRecords}
 use Rattle.building.specs.Refusal.{draw_answer, extract_answer, DrawsNoGrid, HasNoNetwork, LacksSupply}
 use Rattle.one_drawing.specs.Apart.{StandApart}
-use Rattle.one_design.proofs.Records.{AreReaders, One, same_records}
+use Rattle.one_design.specs.Laws.Causes.{One}
+use Rattle.one_design.proofs.Records.{AreReaders, same_records}
 
 -- What is told of the places of a script's commands, of drawing, of extraction, of limits and of supply.
 pub record AreStages : Type 0 where

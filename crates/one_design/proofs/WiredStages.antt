@@ -32,7 +32,7 @@ use Rattle.signing_off.specs.Inputs.{WiredTexts}
 use Rattle.signing_off.specs.Reading.{AreWiredRecords}
 use Rattle.signing_off.specs.Refusal.{wired_answer, WiresNoGrid, HasNoNetwork, LacksSupply}
 use Rattle.signing_off.specs.Signing.{IsGridOf, base_of}
-use Rattle.one_design.proofs.Records.{One}
+use Rattle.one_design.specs.Laws.Causes.{One}
 use Rattle.one_design.proofs.WiredRecords.{AreWiredReaders, same_records}
 
 -- What is told of wiring, of extraction, of limits and of supply.

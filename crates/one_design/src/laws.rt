@@ -4,7 +4,9 @@ ghost use Rattle.answers.specs.declared.answer.Answer.{Answer as Told};
 ghost use Rattle.answers.specs.declared.answer.Answer.TheVariants.{Want};
 ghost use Rattle.building.specs.Building.{Design, IsDesignOf};
 ghost use Rattle.building.specs.Inputs.{FiveTexts};
+ghost use Rattle.building.specs.Reading.{AreRecords, IsUnread};
 ghost use Rattle.building.specs.Refusal.{IsUnbuilt};
+ghost use Rattle.building.specs.declared.records.Records.{Records as Said};
 ghost use Rattle.one_design.specs.Same.{AreSameButCertificates, AreWiredAlike};
 ghost use Rattle.signing_off.specs.Inputs.{WiredTexts};
 ghost use Rattle.signing_off.specs.Refusal.{IsUnsigned};
@@ -48,6 +50,18 @@ pub fn texts_have_one_design()
     extracted_or_refused();
     one_list_of_limits();
     one_first_unsupplied();
+}
+
+/// Five texts have one set of records, or a text that is refused, and not both; want of memory aside.
+pub fn texts_have_one_set_of_records()
+    ensures one { (t : FiveTexts) (a b : Said) → AreRecords t a → AreRecords t b → a ≡ b }
+    ensures apart { (t : FiveTexts) (records : Said) (a : Told) → AreRecords t records → IsUnread t a → a ≡ Want }
+{
+    texts_have_one_tech();
+    cells_have_one_record();
+    designs_have_one_record();
+    texts_have_one_script();
+    texts_have_one_bias();
 }
 
 /// Five texts of a sign-off have one grid with one network and one list of limits, or one answer that tells why nothing is

@@ -4,4 +4,4 @@
 
 mod laws;
 
-pub use laws::{texts_have_one_design, texts_have_one_wired_design};
+pub use laws::{texts_have_one_design, texts_have_one_set_of_records, texts_have_one_wired_design};

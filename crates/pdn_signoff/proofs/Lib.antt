@@ -9,6 +9,7 @@ mod Once
 mod Reading
 mod Running
 mod Signing
+mod Sizes
 mod SignoffAnswers
 mod SignoffOfBuild
 mod SignoffRuns

@@ -12,13 +12,10 @@ use Rattle.answers.specs.declared.answer.Answer.{Answer}
 use Rattle.answers.specs.declared.answer.Answer.TheVariants.{Usage, Want, ReadFault, WriteFault, TooLong, Refused, NoGrid, Range, TooManySteps, PadConflict, FloatingCapacitor, Unsupplied, Built, SignedOff, Generated, Solved, Stepped, Certified, NotCertified}
 use Rattle.answers.specs.declared.built.Built.{Built as Numbers}
 use Rattle.bound_check.specs.Certified.{Certificate}
-use Rattle.building.specs.Building.{Design, IsDesignOf, AreOutputsOf}
 use Rattle.building.specs.Inputs.{FiveTexts}
-use Rattle.building.specs.Refusal.{IsUnbuilt}
-use Rattle.grid_net.specs.Network.{Network}
-use Rattle.grid_network.specs.declared.extracted.Extracted.{Extracted}
-use Rattle.grid_pieces.specs.declared.grid.Grid.{Grid}
 use Rattle.input_files.specs.Inputs.{name_at, EachFits}
+use Rattle.building.specs.Building.{Design, IsDesignOf}
+use Rattle.building.specs.Refusal.{IsUnbuilt}
 use Rattle.one_design.specs.Same.{AreSameButCertificates}
 use Rattle.pdn_signoff.specs.declared.build_files.BuildFiles.{BuildFiles}
 use Rattle.pdn_signoff.specs.Words.{IsBuild}
@@ -31,6 +28,7 @@ use Rattle.pdn_signoff.proofs.Alike.{of_two}
 use Rattle.pdn_signoff.proofs.Building.{failed_write}
 use Rattle.pdn_signoff.proofs.Causes.{AreLaws, of_held}
 use Rattle.pdn_signoff.proofs.Completing.{build_cause, same_texts, each_fits}
+use Rattle.pdn_signoff.proofs.Sizes.{AreSizesOf, one_grid, sizes_of}
 use Rattle.pdn_signoff.proofs.Staged.{IsStage, one_of_all}
 
 -- The laws of five texts, as they are handed in.
@@ -61,23 +59,6 @@ alike_from (Solved nodes resistors sweeps) b e = e
 alike_from (Certified nodes) b e = e
 alike_from (NotCertified node side found) b e = e
 
--- The sizes that a line of `build` tells.
-pub record AreSizesOf (d : Design) (numbers : Numbers) : Type 0 where
-  pub pieces : numbers.pieces ≡ length d.grid.pieces
-  pub stacks : numbers.stacks ≡ length d.grid.stacks
-  pub nodes : numbers.nodes ≡ d.extracted.net.nodes
-  pub resistors : numbers.resistors ≡ length d.extracted.net.resistors
-  pub pads : numbers.pads ≡ length d.extracted.net.pads
-
-one_grid : (d e : Design) (one other : Numbers) → AreSameButCertificates d e → AreSizesOf d one → AreSizesOf e other → TellOneGrid one other
-one_grid d e one other same x y = record {
-  pieces = x.pieces ∙ ap (λ (g : Grid). length g.pieces) same.grid ∙ sym y.pieces;
-  stacks = x.stacks ∙ ap (λ (g : Grid). length g.stacks) same.grid ∙ sym y.stacks;
-  nodes = x.nodes ∙ ap (λ (n : Extracted). n.net.nodes) same.network ∙ sym y.nodes;
-  resistors = x.resistors ∙ ap (λ (n : Extracted). length n.net.resistors) same.network ∙ sym y.resistors;
-  pads = x.pads ∙ ap (λ (n : Extracted). length n.net.pads) same.network ∙ sym y.pads;
-}
-
 module _ (laws : AreDesignLaws) (before after : FilesThen) (held : Holdings) (f : BuildFiles) (known : before.known ≡ Some held) (can : CanRise after.counts) where
   -- The answers that come of the texts: these are refused, or they are built.
   pub record IsRefused (a : Answer) : Type 0 where
@@ -94,7 +75,7 @@ module _ (laws : AreDesignLaws) (before after : FilesThen) (held : Holdings) (f 
     pub is : IsDesignOf solver texts design
     pub numbers : Numbers
     pub told : a ≡ Built numbers
-    pub sizes : AreSizesOf design numbers
+    pub sizes : AreSizesOf design.grid design.extracted.net numbers
 
   abbrev pub IsShort : Answer → Type 0
   IsShort a = IsRefused a ⊎ IsBuilt a
@@ -110,7 +91,7 @@ module _ (laws : AreDesignLaws) (before after : FilesThen) (held : Holdings) (f 
   one_built a b x y =
       let there : IsDesignOf y.solver x.texts y.design = subst (λ t. IsDesignOf y.solver t y.design) (texts_here y.texts x.texts y.are x.are) y.is in
       let same = laws.design x.solver y.solver x.texts x.design y.design x.is there in
-      subst (λ z. AreBuiltAlike z b) (sym x.told) (y.numbers, y.told, one_grid x.design y.design x.numbers y.numbers same x.sizes y.sizes)
+      subst (λ z. AreBuiltAlike z b) (sym x.told) (y.numbers, y.told, one_grid x.design.grid y.design.grid x.design.extracted y.design.extracted x.numbers y.numbers same.grid same.network x.sizes y.sizes)
 
   refused_or_built : (a b : Answer) → IsRefused a → IsBuilt b → ⊥
   refused_or_built a b x y = x.some (laws.apart y.solver y.texts y.design a y.is (subst (λ t. IsUnbuilt t a) (texts_here x.texts y.texts x.are y.are) x.why))
@@ -164,13 +145,8 @@ module _ (laws : AreDesignLaws) (before after : FilesThen) (held : Holdings) (f 
           is = builds.is_design;
           numbers = numbers;
           told = refl;
-          sizes = record {
-            pieces = ap (λ (n : Numbers). n.pieces) numbers_are;
-            stacks = ap (λ (n : Numbers). n.stacks) numbers_are;
-            nodes = ap (λ (n : Numbers). n.nodes) numbers_are ∙ ap (λ (x : Network). x.nodes) builds.is_design.certified.net_is;
-            resistors = ap (λ (n : Numbers). n.resistors) numbers_are ∙ ap (λ (x : Network). length x.resistors) builds.is_design.certified.net_is;
-            pads = ap (λ (n : Numbers). n.pads) numbers_are ∙ ap (λ (x : Network). length x.pads) builds.is_design.certified.net_is;
-          };
+          sizes = sizes_of builds.design.grid builds.design.certificate.net builds.design.extracted.net numbers _ numbers_are builds.is_design.certified.net_is
+              (record { pieces = refl; stacks = refl; nodes = refl; resistors = refl; pads = refl });
         })),
       ))
   stage_of solver solver' Generated some why = absurd why

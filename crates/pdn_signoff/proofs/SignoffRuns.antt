@@ -39,6 +39,7 @@ use Rattle.pdn_signoff.proofs.Causes.{Ran, AreLaws, unhindered}
 use Rattle.pdn_signoff.proofs.Completing.{same_text, of_ending}
 use Rattle.pdn_signoff.proofs.Running.{whole}
 use Rattle.pdn_signoff.proofs.SignoffAnswers.{AreToWiring, IsSignedWhole, alone_signed, low_signed, low_status}
+use Rattle.pdn_signoff.proofs.Sizes.{AreSizesOf, one_grid, sizes_of}
 use Rattle.pdn_signoff.proofs.Staged.{IsStage, one_of_all}
 
 -- The words of `signoff` name eight files alone, and are no others.
@@ -232,23 +233,6 @@ alike_from (Stepped nodes steps) b e = e
 alike_from (Certified nodes) b e = e
 alike_from (NotCertified node side found) b e = e
 
--- The sizes that a line of `signoff` tells.
-pub record AreSizesOf (d : WiredDesign) (numbers : Numbers) : Type 0 where
-  pub pieces : numbers.pieces ≡ length d.grid.pieces
-  pub stacks : numbers.stacks ≡ length d.grid.stacks
-  pub nodes : numbers.nodes ≡ d.signing.extracted.net.nodes
-  pub resistors : numbers.resistors ≡ length d.signing.extracted.net.resistors
-  pub pads : numbers.pads ≡ length d.signing.extracted.net.pads
-
-one_grid : (d e : WiredDesign) (one other : Numbers) → AreWiredAlike d e → AreSizesOf d one → AreSizesOf e other → TellOneGrid one other
-one_grid d e one other same x y = record {
-  pieces = x.pieces ∙ ap (λ (g : Grid). length g.pieces) same.grid ∙ sym y.pieces;
-  stacks = x.stacks ∙ ap (λ (g : Grid). length g.stacks) same.grid ∙ sym y.stacks;
-  nodes = x.nodes ∙ ap (λ (n : Extracted). n.net.nodes) same.network ∙ sym y.nodes;
-  resistors = x.resistors ∙ ap (λ (n : Extracted). length n.net.resistors) same.network ∙ sym y.resistors;
-  pads = x.pads ∙ ap (λ (n : Extracted). length n.net.pads) same.network ∙ sym y.pads;
-}
-
 module _ (laws : AreWiredLaws) (before after : FilesThen) (held : Holdings) (f : SignoffFiles) (known : before.known ≡ Some held) (can : CanRise after.counts) where
   -- The answers that come of the texts: these are refused, or they are signed off.
   pub record IsRefused (a : Answer) : Type 0 where
@@ -265,7 +249,7 @@ module _ (laws : AreWiredLaws) (before after : FilesThen) (held : Holdings) (f :
     pub is : IsWiredDesign solver texts design
     pub numbers : Numbers
     pub told : a ≡ SignedOff numbers
-    pub sizes : AreSizesOf design numbers
+    pub sizes : AreSizesOf design.grid design.signing.extracted.net numbers
 
   abbrev pub IsShort : Answer → Type 0
   IsShort a = IsRefused a ⊎ IsSigned a
@@ -278,7 +262,7 @@ module _ (laws : AreWiredLaws) (before after : FilesThen) (held : Holdings) (f :
   one_signed a b x y =
       let there : IsWiredDesign y.solver x.texts y.design = subst (λ t. IsWiredDesign y.solver t y.design) (same_texts held f y.texts x.texts y.are x.are) y.is in
       let same = laws.design x.solver y.solver x.texts x.design y.design x.is there in
-      subst (λ z. AreSignedAlike z b) (sym x.told) (y.numbers, y.told, one_grid x.design y.design x.numbers y.numbers same x.sizes y.sizes)
+      subst (λ z. AreSignedAlike z b) (sym x.told) (y.numbers, y.told, one_grid x.design.grid y.design.grid x.design.signing.extracted y.design.signing.extracted x.numbers y.numbers same.grid same.network x.sizes y.sizes)
 
   refused_or_signed : (a b : Answer) → IsRefused a → IsSigned b → ⊥
   refused_or_signed a b x y = x.some (laws.apart y.solver y.texts y.design a y.is (subst (λ t. IsUnsigned t a) (same_texts held f x.texts y.texts x.are y.are) x.why))
@@ -306,13 +290,8 @@ module _ (laws : AreWiredLaws) (before after : FilesThen) (held : Holdings) (f :
         is = files.signs.is_design;
         numbers = signed.numbers;
         told = told;
-        sizes = record {
-          pieces = ap (λ (n : Numbers). n.pieces) numbers_are;
-          stacks = ap (λ (n : Numbers). n.stacks) numbers_are;
-          nodes = ap (λ (n : Numbers). n.nodes) numbers_are ∙ ap (λ (x : Network). x.nodes) net_is;
-          resistors = ap (λ (n : Numbers). n.resistors) numbers_are ∙ ap (λ (x : Network). length x.resistors) net_is;
-          pads = ap (λ (n : Numbers). n.pads) numbers_are ∙ ap (λ (x : Network). length x.pads) net_is;
-        };
+        sizes = sizes_of design.grid design.signing.certificate.net design.signing.extracted.net signed.numbers _ numbers_are net_is
+            (record { pieces = refl; stacks = refl; nodes = refl; resistors = refl; pads = refl });
       }
 
   stage_of : (solver solver' : SolverThen) (a : Answer) → a ≢ Want → SignsOff solver solver' before after f a → IsSignoffStage a

@@ -9,9 +9,10 @@ ghost use Rattle.pdn_signoff.specs.inside.Build.{five_of, WritesBuilt};
 
 use crate::build_files::BuildFiles;
 use crate::faults::unread;
+use crate::inputs::input;
 use crate::outputs::write_outputs;
 use answers::Answer;
-use building::{Input, Inputs, Outputs, answers_to_designs, build as build_texts};
+use building::{Inputs, Outputs, answers_to_designs, build as build_texts};
 use entry_list::Entries;
 use grid_net::Solver;
 use input_files::read_each;
@@ -65,26 +66,11 @@ fn inputs_of<'a>(names: &'a BuildFiles, texts: &'a [Entries<u8>]) -> Inputs<'a>
     ensures { five_texts result ≡ five_of names.now texts.now }
 {
     Inputs {
-        lef: Input {
-            file: names.lef.as_str(),
-            text: texts[0].as_slice(),
-        },
-        cells: Input {
-            file: names.cells.as_str(),
-            text: texts[1].as_slice(),
-        },
-        def: Input {
-            file: names.def.as_str(),
-            text: texts[2].as_slice(),
-        },
-        pdn: Input {
-            file: names.pdn.as_str(),
-            text: texts[3].as_slice(),
-        },
-        bias: Input {
-            file: names.bias.as_str(),
-            text: texts[4].as_slice(),
-        },
+        lef: input(names.lef.as_str(), texts[0].as_slice()),
+        cells: input(names.cells.as_str(), texts[1].as_slice()),
+        def: input(names.def.as_str(), texts[2].as_slice()),
+        pdn: input(names.pdn.as_str(), texts[3].as_slice()),
+        bias: input(names.bias.as_str(), texts[4].as_slice()),
     }
 }
 

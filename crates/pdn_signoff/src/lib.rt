@@ -9,6 +9,7 @@ mod command;
 mod design_files;
 mod faults;
 mod generate;
+mod inputs;
 mod outputs;
 mod signoff;
 mod signoff_files;

@@ -8,10 +8,10 @@ ghost use Rattle.pdn_signoff.specs.Signoff.{signoff_files_read, signoff_files_wr
 ghost use Rattle.pdn_signoff.specs.inside.Signoff.{wired_of, WritesSigned};
 
 use crate::faults::unread;
+use crate::inputs::input;
 use crate::outputs::write_outputs;
 use crate::signoff_files::SignoffFiles;
 use answers::Answer;
-use building::Input;
 use entry_list::Entries;
 use grid_net::Solver;
 use grid_signing::SignedGrid;
@@ -20,6 +20,19 @@ use output_files::Output;
 use outside::{Files, LONGEST_TEXT};
 use signing_off::{WiredInputs, sign_off};
 use std::alloc::Global;
+
+/// The names of the files that are read, in their order.
+fn names_read(names: &SignoffFiles) -> [&str; 5]
+    ensures { names_of result ≡ signoff_files_read names.now }
+{
+    [
+        names.lef.as_str(),
+        names.cells.as_str(),
+        names.def.as_str(),
+        names.wires.as_str(),
+        names.bias.as_str(),
+    ]
+}
 
 /// Reads the five files, signs their wiring off, and then writes the three outputs, each into its file.
 pub fn signoff<F: Files, V: Solver>(
@@ -47,48 +60,6 @@ pub fn signoff<F: Files, V: Solver>(
     }
 }
 
-/// The names of the files that are read, in their order.
-fn names_read(names: &SignoffFiles) -> [&str; 5]
-    ensures { names_of result ≡ signoff_files_read names.now }
-{
-    [
-        names.lef.as_str(),
-        names.cells.as_str(),
-        names.def.as_str(),
-        names.wires.as_str(),
-        names.bias.as_str(),
-    ]
-}
-
-/// The texts with the names of their files.
-fn inputs_of<'a>(names: &'a SignoffFiles, texts: &'a [Entries<u8>]) -> WiredInputs<'a>
-    requires { length texts.now ≡ 5 }
-    ensures { wired_texts result ≡ wired_of names.now texts.now }
-{
-    WiredInputs {
-        lef: Input {
-            file: names.lef.as_str(),
-            text: texts[0].as_slice(),
-        },
-        cells: Input {
-            file: names.cells.as_str(),
-            text: texts[1].as_slice(),
-        },
-        def: Input {
-            file: names.def.as_str(),
-            text: texts[2].as_slice(),
-        },
-        wires: Input {
-            file: names.wires.as_str(),
-            text: texts[3].as_slice(),
-        },
-        bias: Input {
-            file: names.bias.as_str(),
-            text: texts[4].as_slice(),
-        },
-    }
-}
-
 /// Writes the outputs.
 fn write_signed<F: Files>(
     alloc: Global,
@@ -104,6 +75,20 @@ fn write_signed<F: Files>(
     match write_outputs(alloc, files, &in_order(names, signed)) {
         Ok(()) => Answer::SignedOff(signed.numbers),
         Err(answer) => answer,
+    }
+}
+
+/// The texts with the names of their files.
+fn inputs_of<'a>(names: &'a SignoffFiles, texts: &'a [Entries<u8>]) -> WiredInputs<'a>
+    requires { length texts.now ≡ 5 }
+    ensures { wired_texts result ≡ wired_of names.now texts.now }
+{
+    WiredInputs {
+        lef: input(names.lef.as_str(), texts[0].as_slice()),
+        cells: input(names.cells.as_str(), texts[1].as_slice()),
+        def: input(names.def.as_str(), texts[2].as_slice()),
+        wires: input(names.wires.as_str(), texts[3].as_slice()),
+        bias: input(names.bias.as_str(), texts[4].as_slice()),
     }
 }
 

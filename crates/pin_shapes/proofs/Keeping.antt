@@ -12,7 +12,7 @@ use Rattle.geom_rect.specs.Rect.{HasCoordinates}
 use Rattle.lef_tech.specs.declared.tech.Tech.{Tech}
 use Rattle.via_arrays.specs.Choice.{direction}
 use Rattle.grid_pieces.specs.declared.grid.DomainAt.{DomainAt}
-use Rattle.grid_pieces.specs.Limits.{WidthKeeps, OneAxis}
+use Rattle.grid_pieces.specs.Limits.{WidthKeeps, DrawnKeeps, OneAxis}
 use Rattle.grid_plan.specs.declared.record.Plan.{Plan}
 use Rattle.grid_plan.specs.Keeping.{PlanKeeps, DomainKeeps}
 use Rattle.grid_shapes.specs.inside.Sites.{ShapeKeeps}
@@ -41,10 +41,25 @@ net_keeps : (plan : Plan) (domain : DomainAt) (power : Bool) → DomainKeeps pla
 net_keeps plan domain true keeps = keeps.upper_net
 net_keeps plan domain false keeps = keeps.lower_net
 
+drawn_keeps : (tech : Tech) (domain : DomainAt) (part : PinPart) → PartKeeps tech part → DrawnKeeps (pin_shape tech domain part)
+drawn_keeps tech domain part keeps =
+    (width_keeps (size_across (direction tech part.layer) part.rect) keeps.width keeps.thin, subst HasCoordinates (sym (metal tech domain part keeps)) keeps.coordinates)
+
+all_drawn_keep : (tech : Tech) (owner : Option DomainAt) (parts : List PinPart) → All (PartKeeps tech) parts → All DrawnKeeps (pins_in tech owner parts)
+all_drawn_keep tech None parts keep = All-nil DrawnKeeps
+all_drawn_keep tech (Some domain) parts keep =
+    All-map DrawnKeeps (pin_shape tech domain) parts (λ k d within. drawn_keeps tech domain (get_or parts k d) (keep k d within))
+
+-- The pins of a block are shapes of a grid.
+pub block_keeps : (tech : Tech) (domains : List DomainAt) (block : PlacedBlock) (shapes : List Drawn) → BlockKeeps tech block
+    → shapes ≡ block_pins tech domains block → All DrawnKeeps shapes
+block_keeps tech domains block shapes keeps are =
+    All-same DrawnKeeps shapes (block_pins tech domains block) are (all_drawn_keep tech (domain_of domains block.domain) block.pins keeps.pins)
+
 pin_keeps : (tech : Tech) (plan : Plan) (domain : DomainAt) (part : PinPart) → DomainKeeps plan domain → PartKeeps tech part
     → ShapeKeeps tech plan (pin_shape tech domain part)
 pin_keeps tech plan domain part owner keeps = record {
-  keeps = (width_keeps (size_across (direction tech part.layer) part.rect) keeps.width keeps.thin, subst HasCoordinates (sym (metal tech domain part keeps)) keeps.coordinates);
+  keeps = drawn_keeps tech domain part keeps;
   even = keeps.width;
   net = net_keeps plan domain part.power owner;
   layer = keeps.layer;

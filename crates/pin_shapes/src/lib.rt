@@ -5,4 +5,4 @@ mod laws;
 mod pins;
 
 pub use laws::pins_keep_their_metal;
-pub use pins::pin_shapes;
+pub use pins::{block_pins, pin_shapes};

@@ -4,7 +4,7 @@ ghost use Rattle.block_rects.specs.Limits.{size_across, PartKeeps};
 ghost use Rattle.geom_rect.specs.Drawn.{half};
 ghost use Rattle.geom_rect.specs.Rect.{IsCoordinate, HasCoordinates};
 ghost use Rattle.grid_cores.specs.Line.{along, across};
-ghost use Rattle.grid_pieces.specs.Limits.{OneAxis};
+ghost use Rattle.grid_pieces.specs.Limits.{DrawnKeeps, OneAxis};
 ghost use Rattle.grid_plan.specs.Keeping.{PlanKeeps};
 ghost use Rattle.grid_shapes.specs.inside.Sites.{ShapeKeeps};
 ghost use Rattle.placed_blocks.specs.Limits.{BlockKeeps};
@@ -54,6 +54,24 @@ fn add_blocks(
         add_block(tech, domains, block, shapes)?;
     }
     Ok(())
+}
+
+/// The pins of one block as shapes, as `pin_shapes` gives them. A block that no voltage domain owns has none.
+///
+/// Error: want of memory.
+pub fn block_pins(
+    alloc: Global,
+    tech: &Tech,
+    domains: &[DomainAt],
+    block: &PlacedBlock,
+) -> Result<Vec<Drawn>, AllocError>
+    requires { BlockKeeps tech.now block.now }
+    ensures shapes { IfOk result (λ shapes. shapes.items ≡ block_pins tech.now domains.now block.now) }
+    ensures keep { IfOk result (λ shapes. All DrawnKeeps shapes.items) }
+{
+    let mut shapes = Vec::new(alloc);
+    add_block(tech, domains, block, &mut shapes)?;
+    Ok(shapes)
 }
 
 // Adds the pins of a block, if a domain owns it.

@@ -32,6 +32,36 @@ const BUILD: [&str; 16] = [
     "g",
 ];
 
+const GENERATE: [&str; 13] = [
+    "generate",
+    "--side=0300",
+    "--number",
+    "18446744073709551615",
+    "--lef",
+    "a",
+    "--cells",
+    "b",
+    "--def",
+    "c",
+    "--pdn",
+    "d",
+    "--bias=e",
+];
+
+const STEP: [&str; 11] = [
+    "step",
+    "--steps",
+    "01000",
+    "--time=+0.5n",
+    "--report",
+    "e",
+    "--netlist",
+    "a",
+    "--waves=a",
+    "--certificate",
+    "d",
+];
+
 #[test]
 fn build_in_any_order(rt: HostRuntime) -> Result<(), Fail> {
     let words = argv(rt.alloc(), &BUILD)?;
@@ -82,28 +112,27 @@ fn signoff_in_any_order(rt: HostRuntime) -> Result<(), Fail> {
             "f",
         ],
     )?;
-    match read(rt.alloc(), &words)? {
-        Command::Signoff {
-            lef,
-            cells,
-            def,
-            wires,
-            bias,
-            netlist,
-            certificate,
-            report,
-        } => {
-            assert_eq!(rt; lef.as_str(), "a");
-            assert_eq!(rt; cells.as_str(), "k");
-            assert_eq!(rt; def.as_str(), "b");
-            assert_eq!(rt; wires.as_str(), "b");
-            assert_eq!(rt; bias.as_str(), "d");
-            assert_eq!(rt; netlist.as_str(), "f");
-            assert_eq!(rt; certificate.as_str(), "g");
-            assert_eq!(rt; report.as_str(), "h");
-        }
-        _ => panic!(rt; "another command"),
-    }
+    let Command::Signoff {
+        lef,
+        cells,
+        def,
+        wires,
+        bias,
+        netlist,
+        certificate,
+        report,
+    } = read(rt.alloc(), &words)?
+    else {
+        panic!(rt; "another command");
+    };
+    assert_eq!(rt; lef.as_str(), "a");
+    assert_eq!(rt; cells.as_str(), "k");
+    assert_eq!(rt; def.as_str(), "b");
+    assert_eq!(rt; wires.as_str(), "b");
+    assert_eq!(rt; bias.as_str(), "d");
+    assert_eq!(rt; netlist.as_str(), "f");
+    assert_eq!(rt; certificate.as_str(), "g");
+    assert_eq!(rt; report.as_str(), "h");
     Ok(())
 }
 
@@ -146,22 +175,6 @@ fn solve_and_check(rt: HostRuntime) -> Result<(), Fail> {
     Ok(())
 }
 
-const GENERATE: [&str; 13] = [
-    "generate",
-    "--side=0300",
-    "--number",
-    "18446744073709551615",
-    "--lef",
-    "a",
-    "--cells",
-    "b",
-    "--def",
-    "c",
-    "--pdn",
-    "d",
-    "--bias=e",
-];
-
 #[test]
 fn generate_a_design(rt: HostRuntime) -> Result<(), Fail> {
     let words = argv(rt.alloc(), &GENERATE)?;
@@ -187,20 +200,6 @@ fn generate_a_design(rt: HostRuntime) -> Result<(), Fail> {
     }
     Ok(())
 }
-
-const STEP: [&str; 11] = [
-    "step",
-    "--steps",
-    "01000",
-    "--time=+0.5n",
-    "--report",
-    "e",
-    "--netlist",
-    "a",
-    "--waves=a",
-    "--certificate",
-    "d",
-];
 
 #[test]
 fn step_over_time(rt: HostRuntime) -> Result<(), Fail> {

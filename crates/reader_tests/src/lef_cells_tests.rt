@@ -126,70 +126,70 @@ fn records_without_what_is_passed_over(rt: HostRuntime) -> Result<(), Fail> {
 }
 
 /// A text, the line and the word of its refusal, and what is wrong with the word.
-type Refused = (&'static [u8], u64, u64, CellsKind);
+type Refused = (CellsKind, &'static [u8], u64, u64);
 
 const REFUSED: [Refused; 38] = [
     // a name that stands again
-    (b"SITE a SIZE 1 BY 1 ; END a SITE a", 1, 11, Twice),
-    (b"MACRO a SIZE 1 BY 1 ; END a\nMACRO a SIZE x", 2, 2, Twice),
+    (Twice, b"SITE a SIZE 1 BY 1 ; END a SITE a", 1, 11),
+    (Twice, b"MACRO a SIZE 1 BY 1 ; END a\nMACRO a SIZE x", 2, 2),
     // a size is required, before the end
-    (b"SITE a END a", 1, 3, Syntax),
-    (b"SITE a CLASS CORE ; END a", 1, 6, Syntax),
-    (b"MACRO a CLASS CORE ; END a", 1, 6, Syntax),
+    (Syntax, b"SITE a END a", 1, 3),
+    (Syntax, b"SITE a CLASS CORE ; END a", 1, 6),
+    (Syntax, b"MACRO a CLASS CORE ; END a", 1, 6),
     (
+        Syntax,
         b"MACRO a PIN SIZE SIZE 1 BY 1 ; END SIZE END a",
         1,
         12,
-        Syntax,
     ),
     // an end of another section
-    (b"SITE a SIZE 1 BY 1 ; END b", 1, 9, Syntax),
-    (b"MACRO a SIZE 1 BY 1 ; END LIBRARY", 1, 9, Syntax),
-    (b"MACRO a SIZE 1 BY 1 ; END \"a\"", 1, 9, Syntax),
-    (b"MACRO a SIZE 1 BY 1 ; END ;", 1, 9, Syntax),
-    (b"END a", 1, 2, Syntax),
-    (b"END", 1, 2, Syntax),
+    (Syntax, b"SITE a SIZE 1 BY 1 ; END b", 1, 9),
+    (Syntax, b"MACRO a SIZE 1 BY 1 ; END LIBRARY", 1, 9),
+    (Syntax, b"MACRO a SIZE 1 BY 1 ; END \"a\"", 1, 9),
+    (Syntax, b"MACRO a SIZE 1 BY 1 ; END ;", 1, 9),
+    (Syntax, b"END a", 1, 2),
+    (Syntax, b"END", 1, 2),
     // `;` begins nothing
-    (b";", 1, 1, Syntax),
-    (b"SITE a ;", 1, 3, Syntax),
-    (b"MACRO a SIZE 1 BY 1 ; ;", 1, 8, Syntax),
+    (Syntax, b";", 1, 1),
+    (Syntax, b"SITE a ;", 1, 3),
+    (Syntax, b"MACRO a SIZE 1 BY 1 ; ;", 1, 8),
     // names are bare words other than `;`
-    (b"SITE ;", 1, 2, Syntax),
-    (b"MACRO \"a\"", 1, 2, Syntax),
-    (b"LAYER ;", 1, 2, Syntax),
-    (b"MACRO a PIN ;", 1, 4, Syntax),
-    (b"MACRO a CLASS ;", 1, 4, Syntax),
-    (b"MACRO a CLASS \"BLOCK\" ;", 1, 4, Syntax),
+    (Syntax, b"SITE ;", 1, 2),
+    (Syntax, b"MACRO \"a\"", 1, 2),
+    (Syntax, b"LAYER ;", 1, 2),
+    (Syntax, b"MACRO a PIN ;", 1, 4),
+    (Syntax, b"MACRO a CLASS ;", 1, 4),
+    (Syntax, b"MACRO a CLASS \"BLOCK\" ;", 1, 4),
     // a size is two lengths, not below 0
-    (b"SITE a SIZE ;", 1, 4, Syntax),
-    (b"SITE a SIZE ( BY 1 ;", 1, 4, Syntax),
-    (b"SITE a SIZE 1 1 ;", 1, 5, Syntax),
-    (b"SITE a SIZE 1 \"BY\" 1 ;", 1, 5, Syntax),
-    (b"SITE a SIZE 1 BY 1 1 ;", 1, 7, Syntax),
-    (b"MACRO a SIZE -1e-9 BY 1 ;", 1, 4, Syntax),
-    (b"MACRO a SIZE 1 BY -1 ;", 1, 6, Syntax),
-    (b"MACRO a SIZE x BY -1 ;", 1, 4, Number(NotNumber)),
-    (b"MACRO a SIZE 1 BY BY ;", 1, 6, Number(NotNumber)),
-    (b"MACRO a SIZE 4e-7 BY 1 ;", 1, 4, Number(Vanishes)),
-    (b"SITE a SIZE 1 BY 100000.0000005 ;", 1, 6, Number(Range)),
+    (Syntax, b"SITE a SIZE ;", 1, 4),
+    (Syntax, b"SITE a SIZE ( BY 1 ;", 1, 4),
+    (Syntax, b"SITE a SIZE 1 1 ;", 1, 5),
+    (Syntax, b"SITE a SIZE 1 \"BY\" 1 ;", 1, 5),
+    (Syntax, b"SITE a SIZE 1 BY 1 1 ;", 1, 7),
+    (Syntax, b"MACRO a SIZE -1e-9 BY 1 ;", 1, 4),
+    (Syntax, b"MACRO a SIZE 1 BY -1 ;", 1, 6),
+    (Number(NotNumber), b"MACRO a SIZE x BY -1 ;", 1, 4),
+    (Number(NotNumber), b"MACRO a SIZE 1 BY BY ;", 1, 6),
+    (Number(Vanishes), b"MACRO a SIZE 4e-7 BY 1 ;", 1, 4),
+    (Number(Range), b"SITE a SIZE 1 BY 100000.0000005 ;", 1, 6),
     (
+        Number(NotNumber),
         b"SITE a SIZE 1 BY 1 ; SIZE 2 BY x ;",
         1,
         11,
-        Number(NotNumber),
     ),
     // the text ends in a section or a statement
-    (b"SITE a SIZE 1 BY 1 ;\n", 2, 1, Syntax),
-    (b"VERSION 5.8\n", 2, 1, Syntax),
-    (b"LAYER a END b\n", 2, 1, Syntax),
-    (b"MACRO a OBS", 1, 4, Syntax),
+    (Syntax, b"SITE a SIZE 1 BY 1 ;\n", 2, 1),
+    (Syntax, b"VERSION 5.8\n", 2, 1),
+    (Syntax, b"LAYER a END b\n", 2, 1),
+    (Syntax, b"MACRO a OBS", 1, 4),
     // a quote that is not closed
-    (b"VERSION 5.8 ;\nSITE a \"SIZE ;", 2, 3, BadString),
+    (BadString, b"VERSION 5.8 ;\nSITE a \"SIZE ;", 2, 3),
 ];
 
 #[test]
 fn refused_texts(rt: HostRuntime) {
-    for (text, line, word, kind) in &REFUSED {
+    for (kind, text, line, word) in &REFUSED {
         let place = Place {
             line: *line,
             word: *word,

@@ -1,7 +1,8 @@
 -- What formats need for their laws: faults at the last word and at earlier ones, rules that are tested by a
 -- computation, blocks, and that a text has one record.
-use Rattle.std.proofs.Common.{◌≡◌, ℕ, zero, suc, ◌+◌, ◌<◌, ◌≤◌, ◌⊎◌, inl, inr, Bool, true, false, if◌then◌else◌, not, ◌&&◌, List, [], ◌∷◌, ◌++◌, length, slice_get, Option, Some, None, Result, Ok, Err, refl, sym, ◌∙◌, ap, subst, arith, length-append}
+use Rattle.std.proofs.Common.{◌≡◌, ℕ, zero, suc, ◌+◌, ◌<◌, ◌≤◌, ◌⊎◌, inl, inr, Bool, true, false, if◌then◌else◌, not, ◌&&◌, List, [], ◌∷◌, ◌++◌, length, slice_get, map, Option, Some, None, Result, Ok, Err, refl, sym, ◌∙◌, ap, subst, arith, length-append}
 use Rattle.std.proofs.lemmas.List.{append-nil}
+use Rattle.std.specs.Option.{unwrap_or}
 use Rattle.outside.specs.declared.place.Place.{Place}
 use Rattle.text_lex.specs.declared.word.Mode.{Mode}
 use Rattle.text_lex.specs.Split.{Split, IsSplit}
@@ -19,6 +20,17 @@ use Rattle.reading.specs.Error.{Kinds, kind_of, ReadsRecord, Agree}
 use Rattle.reading.specs.Fault.{Finds, found_at}
 use Rattle.reading.specs.Grammar.{Shows}
 use Rattle.reading.specs.Blocks.{Block, before_head, blocks, with_unit}
+
+-- A sort that stands in the list of all, which is that of the sorts of these words, is the sort of one of them.
+pub sampled : {S : Type 0} (sort_of : Token → S) (samples : List Token) (all : List S) (n : ℕ) (sort : S) →
+    map sort_of samples ≡ all → slice_get all n ≡ Some sort → (w : Token) × (sort_of w ≡ sort)
+sampled {S} sort_of samples all n sort are stands =
+    found samples n (subst (λ (sorts : List S). slice_get sorts n ≡ Some sort) (sym are) stands)
+  where
+    found : (words : List Token) (k : ℕ) → slice_get (map sort_of words) k ≡ Some sort → (w : Token) × (sort_of w ≡ sort)
+    found [] k h = absurd (cc)
+    found (w ∷ words) zero h = (w, ap (λ (o : Option S). unwrap_or o sort) h)
+    found (w ∷ words) (suc k) h = found words k h
 
 -- Each fault stands at the last word that shows it, and the words of a unit show at most one.
 pub record IsImmediate {W S K : Type 0} (f : Format W S K) : Type 0 where

@@ -7,13 +7,9 @@ use Rattle.reading.specs.Keyword.{keyword_or}
 -- The commands that are read, and the two that are passed over.
 abbrev pub commands : List (List ℕ × Command)
 commands =
-    (codes "set_voltage_domain", SetVoltageDomain)
-    ∷ (codes "define_pdn_grid", DefinePdnGrid)
-    ∷ (codes "add_pdn_stripe", AddPdnStripe)
-    ∷ (codes "add_pdn_ring", AddPdnRing)
-    ∷ (codes "add_pdn_connect", AddPdnConnect)
-    ∷ (codes "pdngen", Pdngen)
-    ∷ (codes "add_global_connection", PassedOver)
+    (codes "set_voltage_domain", SetVoltageDomain) ∷ (codes "define_pdn_grid", DefinePdnGrid)
+    ∷ (codes "add_pdn_stripe", AddPdnStripe) ∷ (codes "add_pdn_ring", AddPdnRing)
+    ∷ (codes "add_pdn_connect", AddPdnConnect) ∷ (codes "pdngen", Pdngen) ∷ (codes "add_global_connection", PassedOver)
     ∷ (codes "global_connect", PassedOver) ∷ []
 
 -- The command of this name.

@@ -30,13 +30,9 @@ pub fn command_named(text: &[u8]) -> Command
     ensures { result ≡ named text.now }
 {
     keyword_or!(text;
-        b"set_voltage_domain" => Command::SetVoltageDomain,
-        b"define_pdn_grid" => Command::DefinePdnGrid,
-        b"add_pdn_stripe" => Command::AddPdnStripe,
-        b"add_pdn_ring" => Command::AddPdnRing,
-        b"add_pdn_connect" => Command::AddPdnConnect,
-        b"pdngen" => Command::Pdngen,
-        b"add_global_connection" => Command::PassedOver,
-        b"global_connect" => Command::PassedOver;
+        b"set_voltage_domain" => Command::SetVoltageDomain, b"define_pdn_grid" => Command::DefinePdnGrid,
+        b"add_pdn_stripe" => Command::AddPdnStripe, b"add_pdn_ring" => Command::AddPdnRing,
+        b"add_pdn_connect" => Command::AddPdnConnect, b"pdngen" => Command::Pdngen,
+        b"add_global_connection" => Command::PassedOver, b"global_connect" => Command::PassedOver;
         Command::Unknown)
 }

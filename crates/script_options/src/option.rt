@@ -100,16 +100,11 @@ fn left_out(text: &[u8]) -> ScriptOption
     ensures { result ≡ left_out_or text.now }
 {
     keyword_or!(text;
-        b"-snap_to_grid" => ScriptOption::LeftOut,
-        b"-fixed_vias" => ScriptOption::LeftOut,
-        b"-dont_use_vias" => ScriptOption::LeftOut,
-        b"-split_cuts" => ScriptOption::LeftOut,
-        b"-ongrid" => ScriptOption::LeftOut,
-        b"-cut_pitch" => ScriptOption::LeftOut,
-        b"-pad_offsets" => ScriptOption::LeftOut,
-        b"-connect_to_pads" => ScriptOption::LeftOut,
-        b"-switched_power" => ScriptOption::LeftOut,
-        b"-secondary_power" => ScriptOption::LeftOut;
+        b"-snap_to_grid" => ScriptOption::LeftOut, b"-fixed_vias" => ScriptOption::LeftOut,
+        b"-dont_use_vias" => ScriptOption::LeftOut, b"-split_cuts" => ScriptOption::LeftOut,
+        b"-ongrid" => ScriptOption::LeftOut, b"-cut_pitch" => ScriptOption::LeftOut,
+        b"-pad_offsets" => ScriptOption::LeftOut, b"-connect_to_pads" => ScriptOption::LeftOut,
+        b"-switched_power" => ScriptOption::LeftOut, b"-secondary_power" => ScriptOption::LeftOut;
         ScriptOption::Unknown)
 }
 
@@ -119,38 +114,19 @@ pub fn option_named(text: &[u8]) -> ScriptOption
 {
     let other = left_out(text);
     keyword_or!(text;
-        b"-name" => ScriptOption::Name,
-        b"-power" => ScriptOption::Power,
-        b"-ground" => ScriptOption::Ground,
-        b"-region" => ScriptOption::Region,
-        b"-voltage_domains" => ScriptOption::VoltageDomains,
-        b"-starts_with" => ScriptOption::StartsWith,
-        b"-pins" => ScriptOption::Pins,
-        b"-macro" => ScriptOption::Macro,
-        b"-orient" => ScriptOption::Orient,
-        b"-halo" => ScriptOption::Halo,
-        b"-cells" => ScriptOption::Cells,
-        b"-instances" => ScriptOption::Instances,
-        b"-default" => ScriptOption::Default,
-        b"-grid_over_boundary" => ScriptOption::GridOverBoundary,
-        b"-grid_over_pg_pins" => ScriptOption::GridOverPgPins,
-        b"-grid" => ScriptOption::Grid,
-        b"-layer" => ScriptOption::Layer,
-        b"-width" => ScriptOption::Width,
-        b"-pitch" => ScriptOption::Pitch,
-        b"-spacing" => ScriptOption::Spacing,
-        b"-offset" => ScriptOption::Offset,
-        b"-followpins" => ScriptOption::Followpins,
-        b"-extend_to_core_ring" => ScriptOption::ExtendToCoreRing,
-        b"-extend_to_boundary" => ScriptOption::ExtendToBoundary,
-        b"-number_of_straps" => ScriptOption::NumberOfStraps,
-        b"-nets" => ScriptOption::Nets,
-        b"-layers" => ScriptOption::Layers,
-        b"-widths" => ScriptOption::Widths,
-        b"-spacings" => ScriptOption::Spacings,
-        b"-core_offsets" => ScriptOption::CoreOffsets,
-        b"-add_connect" => ScriptOption::AddConnect,
-        b"-max_rows" => ScriptOption::MaxRows,
+        b"-name" => ScriptOption::Name, b"-power" => ScriptOption::Power, b"-ground" => ScriptOption::Ground,
+        b"-region" => ScriptOption::Region, b"-voltage_domains" => ScriptOption::VoltageDomains,
+        b"-starts_with" => ScriptOption::StartsWith, b"-pins" => ScriptOption::Pins, b"-macro" => ScriptOption::Macro,
+        b"-orient" => ScriptOption::Orient, b"-halo" => ScriptOption::Halo, b"-cells" => ScriptOption::Cells,
+        b"-instances" => ScriptOption::Instances, b"-default" => ScriptOption::Default,
+        b"-grid_over_boundary" => ScriptOption::GridOverBoundary, b"-grid_over_pg_pins" => ScriptOption::GridOverPgPins,
+        b"-grid" => ScriptOption::Grid, b"-layer" => ScriptOption::Layer, b"-width" => ScriptOption::Width,
+        b"-pitch" => ScriptOption::Pitch, b"-spacing" => ScriptOption::Spacing, b"-offset" => ScriptOption::Offset,
+        b"-followpins" => ScriptOption::Followpins, b"-extend_to_core_ring" => ScriptOption::ExtendToCoreRing,
+        b"-extend_to_boundary" => ScriptOption::ExtendToBoundary, b"-number_of_straps" => ScriptOption::NumberOfStraps,
+        b"-nets" => ScriptOption::Nets, b"-layers" => ScriptOption::Layers, b"-widths" => ScriptOption::Widths,
+        b"-spacings" => ScriptOption::Spacings, b"-core_offsets" => ScriptOption::CoreOffsets,
+        b"-add_connect" => ScriptOption::AddConnect, b"-max_rows" => ScriptOption::MaxRows,
         b"-max_columns" => ScriptOption::MaxColumns;
         other)
 }

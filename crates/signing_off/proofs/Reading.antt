@@ -11,10 +11,10 @@ use Rattle.def_wiring.specs.declared.record.Wires.{Wires}
 use Rattle.def_wiring.specs.Format.{ReadsWires}
 use Rattle.bias_file.specs.Format.{ReadsBias}
 use Rattle.building.specs.Kinds.{tech_kind, def_kind, bias_kind}
-use Rattle.building.specs.Reading.{AreCellsOf, AreCellsRefused, IsRefused}
+use Rattle.building.specs.Reading.{AreCellsOf, AreCellsRefused, IsRefused, HasLef}
 use Rattle.signing_off.specs.Inputs.{WiredTexts}
 use Rattle.signing_off.specs.Kinds.{wires_kind}
-use Rattle.signing_off.specs.Reading.{HasLef, IsUnread}
+use Rattle.signing_off.specs.Reading.{IsUnread}
 
 -- An answer is handed on.
 pub handed_on : {A : Type 0} (P : Answer → Type 0) (r : Result A Answer) (answer : Answer) → IsErrAnd r (λ e. e ≡ answer) → P answer → IfErr r P
@@ -32,19 +32,20 @@ module _ (t : WiredTexts) (answer : Answer) where
   at_cells tech reads (inr (inl own)) = inr (inr (inl ((tech, reads), own)))
   at_cells tech reads (inr (inr (first, other))) = inr (inr (inr (inl ((tech, reads), first, other))))
 
-  module _ (tech : Tech) (reads : ReadsTech t.lef.text (Ok tech)) (cells : Cells) (are : AreCellsOf t.lef.text t.cells.text cells) where
-    lef : HasLef t
-    lef = ((tech, reads), (are.first, are.first_reads), (are.second, are.second_reads))
+  -- Both LEF texts have their records.
+  lef_of : (tech : Tech) → ReadsTech t.lef.text (Ok tech) → (cells : Cells) → AreCellsOf t.lef.text t.cells.text cells → HasLef t.lef t.cells
+  lef_of tech reads cells are = ((tech, reads), (are.first, are.first_reads), (are.second, are.second_reads))
 
-    pub at_design : (answer ≡ Want) ⊎ IsRefused ReadsPlaced def_kind t.def answer → IsUnread t answer
-    at_design (inl want) = inl want
-    at_design (inr refused) = inr (inr (inr (inr (inl (lef, refused)))))
+  pub at_design : (tech : Tech) → ReadsTech t.lef.text (Ok tech) → (cells : Cells) → AreCellsOf t.lef.text t.cells.text cells → (answer ≡ Want) ⊎ IsRefused ReadsPlaced def_kind t.def answer → IsUnread t answer
+  at_design tech reads cells are (inl want) = inl want
+  at_design tech reads cells are (inr refused) = inr (inr (inr (inr (inl (lef_of tech reads cells are, refused)))))
 
-    module _ (design : Design) (designs : ReadsPlaced t.def.text (Ok design)) where
-      pub at_wires : (answer ≡ Want) ⊎ IsRefused ReadsWires wires_kind t.wires answer → IsUnread t answer
-      at_wires (inl want) = inl want
-      at_wires (inr refused) = inr (inr (inr (inr (inr (inl (lef, (design, designs), refused))))))
+  pub at_wires : (tech : Tech) → ReadsTech t.lef.text (Ok tech) → (cells : Cells) → AreCellsOf t.lef.text t.cells.text cells → (design : Design) → ReadsPlaced t.def.text (Ok design)
+      → (answer ≡ Want) ⊎ IsRefused ReadsWires wires_kind t.wires answer → IsUnread t answer
+  at_wires tech reads cells are design designs (inl want) = inl want
+  at_wires tech reads cells are design designs (inr refused) = inr (inr (inr (inr (inr (inl (lef_of tech reads cells are, (design, designs), refused))))))
 
-      pub at_bias : (wires : Wires) → ReadsWires t.wires.text (Ok wires) → (answer ≡ Want) ⊎ IsRefused ReadsBias bias_kind t.bias answer → IsUnread t answer
-      at_bias wires wired (inl want) = inl want
-      at_bias wires wired (inr refused) = inr (inr (inr (inr (inr (inr (lef, (design, designs), (wires, wired), refused))))))
+  pub at_bias : (tech : Tech) → ReadsTech t.lef.text (Ok tech) → (cells : Cells) → AreCellsOf t.lef.text t.cells.text cells → (design : Design) → ReadsPlaced t.def.text (Ok design)
+      → (wires : Wires) → ReadsWires t.wires.text (Ok wires) → (answer ≡ Want) ⊎ IsRefused ReadsBias bias_kind t.bias answer → IsUnread t answer
+  at_bias tech reads cells are design designs wires wired (inl want) = inl want
+  at_bias tech reads cells are design designs wires wired (inr refused) = inr (inr (inr (inr (inr (inr (lef_of tech reads cells are, (design, designs), (wires, wired), refused))))))

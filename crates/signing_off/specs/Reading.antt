@@ -4,8 +4,8 @@ use Rattle.answers.specs.declared.answer.Answer.{Answer}
 use Rattle.answers.specs.declared.answer.Answer.TheVariants.{Want}
 use Rattle.bias_file.specs.Format.{ReadsBias}
 use Rattle.bias_file.specs.Limits.{BiasKeeps}
-use Rattle.building.specs.Kinds.{tech_kind, cells_kind, def_kind, bias_kind}
-use Rattle.building.specs.Reading.{HasLayerNames, AreCellsOf, IsRefused, HasRecord}
+use Rattle.building.specs.Kinds.{def_kind, bias_kind}
+use Rattle.building.specs.Reading.{HasLayerNames, AreCellsOf, IsRefused, HasRecord, HasLef, RefusesTech, RefusesOwnCells, RefusesCells}
 use Rattle.def_design.specs.Format.{ReadsPlaced}
 use Rattle.def_design.specs.Limits.{DesignKeeps}
 use Rattle.def_wiring.specs.declared.record.WiredNet.{WiredNet}
@@ -45,38 +45,24 @@ pub record AreWiredRecords (t : WiredTexts) (r : WiredRecords) : Type 0 where
   pub bias : ReadsBias t.bias.text (Ok r.bias)
   pub kept : WiredRecordsKeep r
 
--- The text that is refused first. The text of the technology is read as a technology and then for its cells.
-abbrev pub RefusesTech : WiredTexts → Answer → Type 0
-RefusesTech t answer = IsRefused ReadsTech tech_kind t.lef answer
-
-abbrev pub RefusesOwnCells : WiredTexts → Answer → Type 0
-RefusesOwnCells t answer = HasRecord ReadsTech t.lef × IsRefused ReadsCells cells_kind t.lef answer
-
-abbrev pub RefusesCells : WiredTexts → Answer → Type 0
-RefusesCells t answer =
-    HasRecord ReadsTech t.lef × HasRecord ReadsCells t.lef × IsRefused ReadsCells cells_kind t.cells answer
-
--- All LEF texts have their records.
-abbrev pub HasLef : WiredTexts → Type 0
-HasLef t = HasRecord ReadsTech t.lef × HasRecord ReadsCells t.lef × HasRecord ReadsCells t.cells
-
+-- A text of a design, of wiring or of a bias file that is refused, where none before it is.
 abbrev pub RefusesDesign : WiredTexts → Answer → Type 0
-RefusesDesign t answer = HasLef t × IsRefused ReadsPlaced def_kind t.def answer
+RefusesDesign t answer = HasLef t.lef t.cells × IsRefused ReadsPlaced def_kind t.def answer
 
 abbrev pub RefusesWires : WiredTexts → Answer → Type 0
-RefusesWires t answer = HasLef t × HasRecord ReadsPlaced t.def × IsRefused ReadsWires wires_kind t.wires answer
+RefusesWires t answer = HasLef t.lef t.cells × HasRecord ReadsPlaced t.def × IsRefused ReadsWires wires_kind t.wires answer
 
 abbrev pub RefusesBias : WiredTexts → Answer → Type 0
 RefusesBias t answer =
-    HasLef t × HasRecord ReadsPlaced t.def × HasRecord ReadsWires t.wires × IsRefused ReadsBias bias_kind t.bias answer
+    HasLef t.lef t.cells × HasRecord ReadsPlaced t.def × HasRecord ReadsWires t.wires × IsRefused ReadsBias bias_kind t.bias answer
 
 -- Why the texts are not read: memory ran out, or one of them is refused and none before it.
 abbrev pub IsUnread : WiredTexts → Answer → Type 0
 IsUnread t answer =
     (answer ≡ Want)
-    ⊎ (RefusesTech t answer
-    ⊎ (RefusesOwnCells t answer
-    ⊎ (RefusesCells t answer
+    ⊎ (RefusesTech t.lef answer
+    ⊎ (RefusesOwnCells t.lef answer
+    ⊎ (RefusesCells t.lef t.cells answer
     ⊎ (RefusesDesign t answer
     ⊎ (RefusesWires t answer
     ⊎ RefusesBias t answer)))))

@@ -62,15 +62,15 @@ module _ (laws : AreNetlistLaws) (file text : List ℕ) where
 
   netlist_to_unsigned : (a : Answer) → IsToNetlist a → IsToUnsigned a
   netlist_to_unsigned Want x = tt
+  netlist_to_unsigned (Refused file place kind) x = tt
+  netlist_to_unsigned (Range quantity at number) x = tt
+  netlist_to_unsigned (PadConflict node first second) x = tt
+  netlist_to_unsigned (Unsupplied node) x = tt
   netlist_to_unsigned Usage x = x
   netlist_to_unsigned (ReadFault file) x = x
   netlist_to_unsigned (WriteFault file) x = x
   netlist_to_unsigned (TooLong file) x = x
-  netlist_to_unsigned (Refused file place kind) x = tt
   netlist_to_unsigned (NoGrid refusal) x = x
-  netlist_to_unsigned (Range quantity at number) x = tt
-  netlist_to_unsigned (PadConflict node first second) x = tt
-  netlist_to_unsigned (Unsupplied node) x = tt
   netlist_to_unsigned (Built built) x = x
   netlist_to_unsigned Generated x = x
   netlist_to_unsigned (FloatingCapacitor node) x = x

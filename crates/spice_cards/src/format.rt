@@ -34,6 +34,14 @@ impl<'a> Grammar<'a> for CardsFormat {
 
     ghost holds = { λ cards held units. Holds units held };
 
+    fn fault(&self, said: &Held<'a>, unit: &[Word<'a>]) -> Option<Found<CardsKind>> {
+        match unit {
+            [first] => found_at(0, first_fault(said.section, sort_of(first))),
+            [first, a, b, words @ ..] => card_fault(sort_of(first), a.text, b.text, words),
+            _ => None,
+        }
+    }
+
     fn sort(&self, _said: &Held<'a>, word: &Word<'a>) -> Sort {
         sort_of(word)
     }
@@ -44,14 +52,6 @@ impl<'a> Grammar<'a> for CardsFormat {
 
     fn rule(section: Section) -> Rule<'a, Sort> {
         rule(section)
-    }
-
-    fn fault(&self, said: &Held<'a>, unit: &[Word<'a>]) -> Option<Found<CardsKind>> {
-        match unit {
-            [first] => found_at(0, first_fault(said.section, sort_of(first))),
-            [first, a, b, words @ ..] => card_fault(sort_of(first), a.text, b.text, words),
-            _ => None,
-        }
     }
 
     fn ends(&self, said: &Held<'a>) -> bool {

@@ -67,18 +67,9 @@ fn sort_of_text(text: &[u8]) -> Sort
     ensures { result ≡ sort_of_text text.now }
 {
     keyword_or!(text;
-        b"DC" => Sort::Dc,
-        b";" => Sort::Mark,
-        b"(" => Sort::Mark,
-        b")" => Sort::Mark,
-        b".end" => Sort::End,
-        b".op" => Sort::Dot,
-        b".option" => Sort::Dot,
-        b".options" => Sort::Dot,
-        b".print" => Sort::Dot,
-        b".plot" => Sort::Dot,
-        b".title" => Sort::Dot,
-        b".width" => Sort::Dot;
+        b"DC" => Sort::Dc, b";" => Sort::Mark, b"(" => Sort::Mark, b")" => Sort::Mark, b".end" => Sort::End,
+        b".op" => Sort::Dot, b".option" => Sort::Dot, b".options" => Sort::Dot, b".print" => Sort::Dot,
+        b".plot" => Sort::Dot, b".title" => Sort::Dot, b".width" => Sort::Dot;
         sort_of_letter(letter_of(text)))
 }
 

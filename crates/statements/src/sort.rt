@@ -39,10 +39,7 @@ fn sort_of_text(text: &[u8]) -> Sort
     ensures { result ≡ sort_of_text text.now }
 {
     keyword_or!(text;
-        b"SET" => Sort::Set,
-        b";" => Sort::Semicolon,
-        b"(" => Sort::Bracket,
-        b")" => Sort::Bracket;
+        b"SET" => Sort::Set, b";" => Sort::Semicolon, b"(" => Sort::Bracket, b")" => Sort::Bracket;
         Sort::Other)
 }
 

@@ -86,6 +86,24 @@ behind_end n f g i l = ap (λ (b : Bool). cond b (f i) (g (i - n))) (no i n l)
     no : (i n : ℕ) → n ≤ i → ltb i n ≡ false
     no i n l = grind (arith, nat_tests)
 
+-- ---- the laws of a certificate
+-- What they tell of potentials.
+abbrev pub AtMostHigh : Type 0
+AtMostHigh = (net : Network) (high : ℕ → ℤ) (q : ℕ) (p c drawn : ℕ → ℤ) → IsNetwork net → HighHolds net high
+    → MeetsLaws net q p c drawn → PadsAtMost net q p → (i : ℕ) → i < net.nodes → p i ≤ℤ (pos q *ℤ high i)
+
+abbrev pub AtLeastLow : Type 0
+AtLeastLow = (net : Network) (low : ℕ → ℤ) (q : ℕ) (p c drawn : ℕ → ℤ) → IsNetwork net → LowHolds net low
+    → MeetsLaws net q p c drawn → PadsAtLeast net q p → (i : ℕ) → i < net.nodes → (pos q *ℤ low i) ≤ℤ p i
+
+abbrev pub SolutionsBelow : Type 0
+SolutionsBelow = (net : Network) (high : ℕ → ℤ) (q : ℕ) (p c drawn : ℕ → ℤ) → IsNetwork net → HighHolds net high
+    → IsSolution net q p c drawn → (i : ℕ) → i < net.nodes → p i ≤ℤ (pos q *ℤ high i)
+
+abbrev pub SolutionsAbove : Type 0
+SolutionsAbove = (net : Network) (low : ℕ → ℤ) (q : ℕ) (p c drawn : ℕ → ℤ) → IsNetwork net → LowHolds net low
+    → IsSolution net q p c drawn → (i : ℕ) → i < net.nodes → (pos q *ℤ low i) ≤ℤ p i
+
 -- ---- one step
 module _ (kept : KeptPads) (add : LoadsAdd) (net : Network) (built : IsBuilt net) (xs : List Companion) (fit : AreCompanions net xs)
     (changes : List Change) (t : ℕ) (are : AreLoads net.nodes (step_loads net changes t))
@@ -243,24 +261,29 @@ module _ (kept : KeptPads) (add : LoadsAdd) (net : Network) (built : IsBuilt net
         omega (arith, ints, here, above m.0 m.1, times))
   ]
 
+  own_entry : (x : List ℤ) (i : ℕ) → length x ≡ net.nodes → i < net.nodes → entry_of (with_memory net xs v x) i ≡ entry_of x i
+  own_entry x i size h = get_or_append_left x (map (entry_of v) (nodes_with_memory xs net.nodes)) (pos 0) i (omega (arith, size, h))
+
+  -- So a list that bounds the step's network bounds the potentials, where those before are bounded.
+  pub step_below : AtMostHigh → (now : List ℤ) → length now ≡ net.nodes → HighHolds over (entry_of (with_memory net xs v now))
+      → ((i : ℕ) → i < net.nodes → before i ≤ℤ (pos q *ℤ entry_of v i)) → (i : ℕ) → i < net.nodes → p i ≤ℤ (pos q *ℤ entry_of now i)
+  step_below most now size holds below i m =
+      let network = is_network net built xs fit (step_loads net changes t) are v in
+      let up = most over (entry_of (with_memory net xs v now)) q potential current drawn network holds meets (at_most below) i (omega arith) in
+      let mine = own_potential i m in
+      let entry = ap (λ (z : ℤ). pos q *ℤ z) (own_entry now i size m) in
+      omega (arith, ints, up, mine, entry)
+
+  pub step_above : AtLeastLow → (now : List ℤ) → length now ≡ net.nodes → LowHolds over (entry_of (with_memory net xs v now))
+      → ((i : ℕ) → i < net.nodes → (pos q *ℤ entry_of v i) ≤ℤ before i) → (i : ℕ) → i < net.nodes → (pos q *ℤ entry_of now i) ≤ℤ p i
+  step_above least now size holds above i m =
+      let network = is_network net built xs fit (step_loads net changes t) are v in
+      let down = least over (entry_of (with_memory net xs v now)) q potential current drawn network holds meets (at_least above) i (omega arith) in
+      let mine = own_potential i m in
+      let entry = ap (λ (z : ℤ). pos q *ℤ z) (own_entry now i size m) in
+      omega (arith, ints, down, mine, entry)
+
 -- ---- all steps
--- What the laws of a certificate tell.
-abbrev pub AtMostHigh : Type 0
-AtMostHigh = (net : Network) (high : ℕ → ℤ) (q : ℕ) (p c drawn : ℕ → ℤ) → IsNetwork net → HighHolds net high
-    → MeetsLaws net q p c drawn → PadsAtMost net q p → (i : ℕ) → i < net.nodes → p i ≤ℤ (pos q *ℤ high i)
-
-abbrev pub AtLeastLow : Type 0
-AtLeastLow = (net : Network) (low : ℕ → ℤ) (q : ℕ) (p c drawn : ℕ → ℤ) → IsNetwork net → LowHolds net low
-    → MeetsLaws net q p c drawn → PadsAtLeast net q p → (i : ℕ) → i < net.nodes → (pos q *ℤ low i) ≤ℤ p i
-
-abbrev pub SolutionsBelow : Type 0
-SolutionsBelow = (net : Network) (high : ℕ → ℤ) (q : ℕ) (p c drawn : ℕ → ℤ) → IsNetwork net → HighHolds net high
-    → IsSolution net q p c drawn → (i : ℕ) → i < net.nodes → p i ≤ℤ (pos q *ℤ high i)
-
-abbrev pub SolutionsAbove : Type 0
-SolutionsAbove = (net : Network) (low : ℕ → ℤ) (q : ℕ) (p c drawn : ℕ → ℤ) → IsNetwork net → LowHolds net low
-    → IsSolution net q p c drawn → (i : ℕ) → i < net.nodes → (pos q *ℤ low i) ≤ℤ p i
-
 range_in_order : (cs : List Change) → All (λ c. c.low ≤ℤ c.high) cs → (i : ℕ) (r : LoadRange) → r.low ≤ℤ r.high
     → (range_after cs i r).low ≤ℤ (range_after cs i r).high
 range_in_order [] all i r h = h
@@ -292,57 +315,27 @@ module _ (kept : KeptPads) (add : LoadsAdd) (most : AtMostHigh) (least : AtLeast
     (ok : AreChanges net changes) (last : ℕ) (high low : List (List ℤ))
     (cert : IsStepCertificate net xs changes (last + 1) high low) (q : ℕ) (p c k l : ℕ → ℕ → ℤ)
     (sol : IsSteppedSolution net xs changes last q p c k l) where
-  own_entry : (x before : List ℤ) (i : ℕ) → length x ≡ net.nodes → i < net.nodes
-      → entry_of (with_memory net xs before x) i ≡ entry_of x i
-  own_entry x before i size h = get_or_append_left x (map (entry_of before) (nodes_with_memory xs net.nodes)) (pos 0) i (omega (arith, size, h))
-
   under : (t : ℕ) → t ≤ last → (i : ℕ) → i < net.nodes → p t i ≤ℤ (pos q *ℤ entry_of (list_at high t) i)
   under zero h i m = below net (entry_of (list_at high 0)) q (p 0) (c 0) (l 0) built.is_network (cert.certificate (omega arith)).high_half.holds sol.start i m
   under (suc t) h i m =
       let before = list_at high t in
       let now = list_at high (suc t) in
-      let are = are_loads net built changes ok (suc t) in
-      let step = sol.later t (omega arith) in
       let bound : IsHighBound net xs (step_loads net changes (suc t)) before now = cert.high_bounds t (omega arith) in
-      let over = network_over net xs (step_loads net changes (suc t)) before in
       let size : length now ≡ net.nodes = cert.high_sizes (suc t) [] (omega (arith, cert.high_count)) in
-      let up = most over (entry_of (with_memory net xs before now)) q
-      (potential kept add net built xs fit changes (suc t) are (range_is net built changes ok (suc t)) before q sol.start.denominator (p t) (p (suc t)) (c (suc t)) (k (suc t)) (l (suc t)) step)
-      (current kept add net built xs fit changes (suc t) are (range_is net built changes ok (suc t)) before q sol.start.denominator (p t) (p (suc t)) (c (suc t)) (k (suc t)) (l (suc t)) step)
-      (drawn kept add net built xs fit changes (suc t) are (range_is net built changes ok (suc t)) before q sol.start.denominator (p t) (p (suc t)) (c (suc t)) (k (suc t)) (l (suc t)) step)
-      (is_network net built xs fit (step_loads net changes (suc t)) are before)
-      bound.half.holds
-      (meets kept add net built xs fit changes (suc t) are (range_is net built changes ok (suc t)) before q sol.start.denominator (p t) (p (suc t)) (c (suc t)) (k (suc t)) (l (suc t)) step)
-      (at_most kept add net built xs fit changes (suc t) are (range_is net built changes ok (suc t)) before q sol.start.denominator (p t) (p (suc t)) (c (suc t)) (k (suc t)) (l (suc t)) step
-      (under t (omega arith)))
-      i (omega arith) in
-      let mine = own_potential kept add net built xs fit changes (suc t) are (range_is net built changes ok (suc t)) before q sol.start.denominator (p t) (p (suc t)) (c (suc t)) (k (suc t)) (l (suc t)) step i m in
-      let entry = ap (λ (z : ℤ). pos q *ℤ z) (own_entry now before i size m) in
-      omega (arith, ints, up, mine, entry)
+      step_below kept add net built xs fit changes (suc t) (are_loads net built changes ok (suc t)) (range_is net built changes ok (suc t))
+      before q sol.start.denominator (p t) (p (suc t)) (c (suc t)) (k (suc t)) (l (suc t)) (sol.later t (omega arith))
+      most now size bound.half.holds (under t (omega arith)) i m
 
   on_top : (t : ℕ) → t ≤ last → (i : ℕ) → i < net.nodes → (pos q *ℤ entry_of (list_at low t) i) ≤ℤ p t i
   on_top zero h i m = above net (entry_of (list_at low 0)) q (p 0) (c 0) (l 0) built.is_network (cert.certificate (omega arith)).low_half.holds sol.start i m
   on_top (suc t) h i m =
       let before = list_at low t in
       let now = list_at low (suc t) in
-      let are = are_loads net built changes ok (suc t) in
-      let step = sol.later t (omega arith) in
       let bound : IsLowBound net xs (step_loads net changes (suc t)) before now = cert.low_bounds t (omega arith) in
-      let over = network_over net xs (step_loads net changes (suc t)) before in
       let size : length now ≡ net.nodes = cert.low_sizes (suc t) [] (omega (arith, cert.low_count)) in
-      let down = least over (entry_of (with_memory net xs before now)) q
-      (potential kept add net built xs fit changes (suc t) are (range_is net built changes ok (suc t)) before q sol.start.denominator (p t) (p (suc t)) (c (suc t)) (k (suc t)) (l (suc t)) step)
-      (current kept add net built xs fit changes (suc t) are (range_is net built changes ok (suc t)) before q sol.start.denominator (p t) (p (suc t)) (c (suc t)) (k (suc t)) (l (suc t)) step)
-      (drawn kept add net built xs fit changes (suc t) are (range_is net built changes ok (suc t)) before q sol.start.denominator (p t) (p (suc t)) (c (suc t)) (k (suc t)) (l (suc t)) step)
-      (is_network net built xs fit (step_loads net changes (suc t)) are before)
-      bound.half.holds
-      (meets kept add net built xs fit changes (suc t) are (range_is net built changes ok (suc t)) before q sol.start.denominator (p t) (p (suc t)) (c (suc t)) (k (suc t)) (l (suc t)) step)
-      (at_least kept add net built xs fit changes (suc t) are (range_is net built changes ok (suc t)) before q sol.start.denominator (p t) (p (suc t)) (c (suc t)) (k (suc t)) (l (suc t)) step
-      (on_top t (omega arith)))
-      i (omega arith) in
-      let mine = own_potential kept add net built xs fit changes (suc t) are (range_is net built changes ok (suc t)) before q sol.start.denominator (p t) (p (suc t)) (c (suc t)) (k (suc t)) (l (suc t)) step i m in
-      let entry = ap (λ (z : ℤ). pos q *ℤ z) (own_entry now before i size m) in
-      omega (arith, ints, down, mine, entry)
+      step_above kept add net built xs fit changes (suc t) (are_loads net built changes ok (suc t)) (range_is net built changes ok (suc t))
+      before q sol.start.denominator (p t) (p (suc t)) (c (suc t)) (k (suc t)) (l (suc t)) (sol.later t (omega arith))
+      least now size bound.half.holds (on_top t (omega arith)) i m
 
   pub between : (t i : ℕ) → t ≤ last → i < net.nodes
       → ((pos q *ℤ entry_of (list_at low t) i) ≤ℤ p t i) × (p t i ≤ℤ (pos q *ℤ entry_of (list_at high t) i))

@@ -17,29 +17,12 @@ pub(crate) enum Sort {
     TextEnd,
 }
 
-impl Numbered for Sort {
-    ghost number = { number_of };
-
-    ghost all = { all_sorts };
-
-    fn number(self) -> usize {
-        self as usize
-    }
-
-    ghost listed = { listed };
-
-    ghost few = { few };
-}
-
 /// The sort of a word that stands within a line.
 fn sort_of_text(text: &[u8]) -> Sort
     ensures { result ≡ sort_of_text text.now }
 {
     keyword_or!(text;
-        b"at" => Sort::At,
-        b";" => Sort::Mark,
-        b"(" => Sort::Mark,
-        b")" => Sort::Mark;
+        b"at" => Sort::At, b";" => Sort::Mark, b"(" => Sort::Mark, b")" => Sort::Mark;
         Sort::Other)
 }
 
@@ -52,4 +35,18 @@ pub(crate) fn sort_of(word: &Word<'_>) -> Sort
         Form::End => Sort::TextEnd,
         _ => sort_of_text(word.text),
     }
+}
+
+impl Numbered for Sort {
+    ghost number = { number_of };
+
+    ghost all = { all_sorts };
+
+    fn number(self) -> usize {
+        self as usize
+    }
+
+    ghost listed = { listed };
+
+    ghost few = { few };
 }

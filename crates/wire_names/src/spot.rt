@@ -13,23 +13,19 @@ use crate::tables::Tables;
 use def_wiring::{ViaPlace, WiredNet};
 use std::alloc::{AllocError, Global};
 
-// The places of all vias, in their order.
-pub(crate) fn spots<'a>(
-    alloc: Global,
-    tables: &Tables<'a>,
-    power_first: bool,
-    nets: &'a [WiredNet],
-) -> Result<Vec<Spot>, AllocError>
-    requires { All (λ (net : WiredNet). All LiesNear net.vias) nets.now }
-    ensures are { IfOk result (λ spots. spots.items ≡ flat_map (spots_of (names_in tables.now) power_first) nets.now) }
-    ensures stand { IfOk result (λ spots. All (SpotStands (length tables.now.vias)) spots.items) }
+fn spot<'a>(tables: &Tables<'a>, net: u32, at: &'a ViaPlace) -> Result<Spot, AllocError>
+    requires net { net < 2 }
+    requires keeps { LiesNear at.now }
+    ensures is { IfOk result (λ spot. spot ≡ spot_of (names_in tables.now) net at.now) }
+    ensures stands { IfOk result (SpotStands (length tables.now.vias)) }
 {
-    let mut spots = Vec::new(alloc);
-    for net in nets {
-        let number = net_number(power_first, net.power);
-        add_spots(tables, number, net.vias.as_slice(), &mut spots)?;
-    }
-    Ok(spots)
+    let via = place(&tables.vias, &at.via)?;
+    Ok(Spot {
+        net,
+        via,
+        x: at.x,
+        y: at.y,
+    })
 }
 
 // Adds the places of the vias of a net.
@@ -52,17 +48,21 @@ fn add_spots<'a>(
     Ok(())
 }
 
-fn spot<'a>(tables: &Tables<'a>, net: u32, at: &'a ViaPlace) -> Result<Spot, AllocError>
-    requires net { net < 2 }
-    requires keeps { LiesNear at.now }
-    ensures is { IfOk result (λ spot. spot ≡ spot_of (names_in tables.now) net at.now) }
-    ensures stands { IfOk result (SpotStands (length tables.now.vias)) }
+// The places of all vias, in their order.
+pub(crate) fn spots<'a>(
+    alloc: Global,
+    tables: &Tables<'a>,
+    power_first: bool,
+    nets: &'a [WiredNet],
+) -> Result<Vec<Spot>, AllocError>
+    requires { All (λ (net : WiredNet). All LiesNear net.vias) nets.now }
+    ensures are { IfOk result (λ spots. spots.items ≡ flat_map (spots_of (names_in tables.now) power_first) nets.now) }
+    ensures stand { IfOk result (λ spots. All (SpotStands (length tables.now.vias)) spots.items) }
 {
-    let via = place(&tables.vias, &at.via)?;
-    Ok(Spot {
-        net,
-        via,
-        x: at.x,
-        y: at.y,
-    })
+    let mut spots = Vec::new(alloc);
+    for net in nets {
+        let number = net_number(power_first, net.power);
+        add_spots(tables, number, net.vias.as_slice(), &mut spots)?;
+    }
+    Ok(spots)
 }

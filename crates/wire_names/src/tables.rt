@@ -20,21 +20,6 @@ pub(crate) struct Tables<'a> {
     pub(crate) vias: NamePlaces<'a>,
 }
 
-pub(crate) fn tables_of<'a>(
-    alloc: Global,
-    tech: &'a Tech,
-    wires: &'a Wires,
-) -> Result<Tables<'a>, AllocError>
-    ensures { IfOk result (λ tables. names_in tables ≡ names_of tech.now wires.now) }
-{
-    Ok(Tables {
-        layers: layers(alloc, tech)?,
-        cuts: cuts(alloc, tech)?,
-        rules: rules(alloc, tech)?,
-        vias: vias(alloc, wires)?,
-    })
-}
-
 fn layers<'a>(alloc: Global, tech: &'a Tech) -> Result<NamePlaces<'a>, AllocError>
     ensures { IfOk result (λ table. table ≡ map (λ (layer : RoutingLayer). layer.name) tech.now.routing) }
 {
@@ -53,6 +38,21 @@ fn cuts<'a>(alloc: Global, tech: &'a Tech) -> Result<NamePlaces<'a>, AllocError>
         names.push(layer.name.bytes())?;
     }
     NamePlaces::new(alloc, names)
+}
+
+pub(crate) fn tables_of<'a>(
+    alloc: Global,
+    tech: &'a Tech,
+    wires: &'a Wires,
+) -> Result<Tables<'a>, AllocError>
+    ensures { IfOk result (λ tables. names_in tables ≡ names_of tech.now wires.now) }
+{
+    Ok(Tables {
+        layers: layers(alloc, tech)?,
+        cuts: cuts(alloc, tech)?,
+        rules: rules(alloc, tech)?,
+        vias: vias(alloc, wires)?,
+    })
 }
 
 fn rules<'a>(alloc: Global, tech: &'a Tech) -> Result<NamePlaces<'a>, AllocError>

@@ -19,7 +19,7 @@ use Rattle.wiring_file.specs.Record.{is_via, is_wire, is_stacked, SaysVia, SaysW
 use Rattle.wiring_file.specs.Format.{format}
 use Rattle.wiring_file.specs.Number.{place_of, numbers_in, quantity_at}
 use Rattle.wiring_file.specs.Rule.{pattern}
-use Rattle.wiring_file.specs.Sort.{all_sorts, sort_of, sort_with}
+use Rattle.wiring_file.specs.Sort.{all_sorts, sort_of, sort_with, number_of as number_of_sort, listed}
 use Rattle.wiring_file.specs.Standing.{Standing, standing, placed}
 use Rattle.wiring_file.specs.Unit.{text_at}
 use Rattle.wiring_file.proofs.Numbers.{HasOne, Answer, ok_is, err_is, not_both}
@@ -27,70 +27,34 @@ use Rattle.reading.specs.declared.refusal.Found.{Found}
 use Rattle.reading.specs.declared.word.Form.{Form}
 use Rattle.reading.specs.declared.word.Form.TheVariants.{Bare, Quoted, End}
 use Rattle.reading.specs.Grammar.{IsUnit, IsRegular}
-use Rattle.reading.specs.Laws.{immediate}
+use Rattle.reading.specs.Laws.{immediate, sampled}
 use Rattle.reading.specs.Word.{Token}
 
-word : List ℕ → Form → Token
+abbrev word : List ℕ → Form → Token
 word text form = record { text = text; place = record { line = 1; word = 1 }; form = form }
 
+abbrev samples : List Token
+samples =
+    word (codes ";") Bare ∷ word (codes "(") Bare ∷ word (codes ")") Bare ∷ word (codes "+") Bare ∷
+    word (codes "-") Bare ∷ word (codes "VERSION") Bare ∷ word (codes "5.8") Bare ∷ word (codes "DIVIDERCHAR") Bare ∷
+    word (codes "BUSBITCHARS") Bare ∷ word (codes "DESIGN") Bare ∷ word (codes "UNITS") Bare ∷
+    word (codes "DISTANCE") Bare ∷ word (codes "MICRONS") Bare ∷ word (codes "DIEAREA") Bare ∷
+    word (codes "VIAS") Bare ∷ word (codes "VIARULE") Bare ∷ word (codes "CUTSIZE") Bare ∷
+    word (codes "LAYERS") Bare ∷ word (codes "CUTSPACING") Bare ∷ word (codes "ENCLOSURE") Bare ∷
+    word (codes "ROWCOL") Bare ∷ word (codes "END") Bare ∷ word (codes "SPECIALNETS") Bare ∷ word (codes "USE") Bare ∷
+    word (codes "POWER") Bare ∷ word (codes "ROUTED") Bare ∷ word (codes "NEW") Bare ∷ word (codes "SHAPE") Bare ∷
+    word (codes "STRIPE") Bare ∷ word (codes "RING") Bare ∷ word (codes "/") Quoted ∷ word (codes "[]") Quoted ∷
+    word [] Quoted ∷ word [] Bare ∷ word [] End ∷ []
+
 sample : (sort : Sort) → (w : Token) × (sort_of w ≡ sort)
-unfolding word
-sample sorts.Semicolon = (word (codes ";") Bare, refl)
-sample sorts.Open = (word (codes "(") Bare, refl)
-sample sorts.Close = (word (codes ")") Bare, refl)
-sample sorts.Plus = (word (codes "+") Bare, refl)
-sample sorts.Minus = (word (codes "-") Bare, refl)
-sample sorts.Version = (word (codes "VERSION") Bare, refl)
-sample sorts.Edition = (word (codes "5.8") Bare, refl)
-sample sorts.DividerChar = (word (codes "DIVIDERCHAR") Bare, refl)
-sample sorts.BusBitChars = (word (codes "BUSBITCHARS") Bare, refl)
-sample sorts.Design = (word (codes "DESIGN") Bare, refl)
-sample sorts.Units = (word (codes "UNITS") Bare, refl)
-sample sorts.Distance = (word (codes "DISTANCE") Bare, refl)
-sample sorts.Microns = (word (codes "MICRONS") Bare, refl)
-sample sorts.DieArea = (word (codes "DIEAREA") Bare, refl)
-sample sorts.Vias = (word (codes "VIAS") Bare, refl)
-sample sorts.ViaRule = (word (codes "VIARULE") Bare, refl)
-sample sorts.CutSize = (word (codes "CUTSIZE") Bare, refl)
-sample sorts.Layers = (word (codes "LAYERS") Bare, refl)
-sample sorts.CutSpacing = (word (codes "CUTSPACING") Bare, refl)
-sample sorts.Enclosure = (word (codes "ENCLOSURE") Bare, refl)
-sample sorts.RowCol = (word (codes "ROWCOL") Bare, refl)
-sample sorts.End = (word (codes "END") Bare, refl)
-sample sorts.SpecialNets = (word (codes "SPECIALNETS") Bare, refl)
-sample sorts.Use = (word (codes "USE") Bare, refl)
-sample sorts.Supply = (word (codes "POWER") Bare, refl)
-sample sorts.Routed = (word (codes "ROUTED") Bare, refl)
-sample sorts.New = (word (codes "NEW") Bare, refl)
-sample sorts.Shape = (word (codes "SHAPE") Bare, refl)
-sample sorts.Stripe = (word (codes "STRIPE") Bare, refl)
-sample sorts.Drawn = (word (codes "RING") Bare, refl)
-sample sorts.Slash = (word (codes "/") Quoted, refl)
-sample sorts.Brackets = (word (codes "[]") Quoted, refl)
-sample sorts.Quoted = (word [] Quoted, refl)
-sample sorts.Other = (word [] Bare, refl)
-sample sorts.TextEnd = (word [] End, refl)
+sample sort = sampled sort_of samples all_sorts (number_of_sort sort) sort refl (listed sort)
 
 usable : Section → Sort → Bool
 usable section sort = true
 
 units_end : (section : Section) → IsUnit all_sorts (usable section) sorts.TextEnd (pattern section)
 unfolding usable
-units_end sections.Version = record { solid = inr refl; closes = refl; comes_last = refl }
-units_end sections.DividerChar = record { solid = inr refl; closes = refl; comes_last = refl }
-units_end sections.BusBitChars = record { solid = inr refl; closes = refl; comes_last = refl }
-units_end sections.Design = record { solid = inr refl; closes = refl; comes_last = refl }
-units_end sections.Units = record { solid = inr refl; closes = refl; comes_last = refl }
-units_end sections.Die = record { solid = inr refl; closes = refl; comes_last = refl }
-units_end sections.ViasHead = record { solid = inr refl; closes = refl; comes_last = refl }
-units_end sections.Vias = record { solid = inr refl; closes = refl; comes_last = refl }
-units_end sections.NetsHead = record { solid = inr refl; closes = refl; comes_last = refl }
-units_end sections.Nets = record { solid = inr refl; closes = refl; comes_last = refl }
-units_end sections.First = record { solid = inr refl; closes = refl; comes_last = refl }
-units_end sections.Line = record { solid = inr refl; closes = refl; comes_last = refl }
-units_end sections.Next = record { solid = inr refl; closes = refl; comes_last = refl }
-units_end sections.DesignEnd = record { solid = inr refl; closes = refl; comes_last = refl }
-units_end sections.Ended = record { solid = inr refl; closes = refl; comes_last = refl }
+units_end = elim [ sections.Version ↦ record { solid = inr refl; closes = refl; comes_last = refl } | _ ↦ record { solid = inr refl; closes = refl; comes_last = refl } ]
 
 -- ## faults
 

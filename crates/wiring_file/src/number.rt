@@ -26,37 +26,6 @@ pub(crate) enum Quantity {
     Microns,
 }
 
-fn whole(limit: u128, sign: NumberSign) -> NumberPlace
-    ensures { result ≡ record { form = NumberForm.Integer; places = 0; limit = limit; sign = sign } }
-{
-    NumberPlace {
-        form: NumberForm::Integer,
-        places: 0,
-        limit,
-        sign,
-    }
-}
-
-/// The place of a number.
-fn place_of(quantity: Quantity) -> NumberPlace
-    ensures { result ≡ place_of quantity }
-{
-    match quantity {
-        Quantity::Coordinate => whole(NUMBER_LIMIT, NumberSign::Any),
-        Quantity::NotNegative => whole(NUMBER_LIMIT, NumberSign::NotNegative),
-        Quantity::Positive => whole(NUMBER_LIMIT, NumberSign::Positive),
-        Quantity::Microns => whole(UNITS_LIMIT, NumberSign::Positive),
-    }
-}
-
-/// Reads the text as a number of this kind, or says why it is refused.
-pub(crate) fn read_number(quantity: Quantity, text: &[u8]) -> Result<i64, Refused>
-    ensures answer { IsNumberAt (place_of quantity) text.now result }
-    ensures only { (other : Result ℤ Reason) → IsNumberAt (place_of quantity) text.now other → other ≡ result }
-{
-    small_number_at(place_of(quantity), text)
-}
-
 const UNITS: [(usize, Quantity); 1] = [(3, Quantity::Microns)];
 
 const DIE: [(usize, Quantity); 4] = [
@@ -114,4 +83,35 @@ pub(crate) fn number_at(section: Section, n: usize) -> Option<Quantity>
         }
     }
     None
+}
+
+/// The place of a number.
+fn place_of(quantity: Quantity) -> NumberPlace
+    ensures { result ≡ place_of quantity }
+{
+    match quantity {
+        Quantity::Coordinate => whole(NUMBER_LIMIT, NumberSign::Any),
+        Quantity::NotNegative => whole(NUMBER_LIMIT, NumberSign::NotNegative),
+        Quantity::Positive => whole(NUMBER_LIMIT, NumberSign::Positive),
+        Quantity::Microns => whole(UNITS_LIMIT, NumberSign::Positive),
+    }
+}
+
+/// Reads the text as a number of this kind, or says why it is refused.
+pub(crate) fn read_number(quantity: Quantity, text: &[u8]) -> Result<i64, Refused>
+    ensures answer { IsNumberAt (place_of quantity) text.now result }
+    ensures only { (other : Result ℤ Reason) → IsNumberAt (place_of quantity) text.now other → other ≡ result }
+{
+    small_number_at(place_of(quantity), text)
+}
+
+fn whole(limit: u128, sign: NumberSign) -> NumberPlace
+    ensures { result ≡ record { form = NumberForm.Integer; places = 0; limit = limit; sign = sign } }
+{
+    NumberPlace {
+        form: NumberForm::Integer,
+        places: 0,
+        limit,
+        sign,
+    }
 }

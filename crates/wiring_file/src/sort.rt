@@ -117,38 +117,15 @@ fn sort_of_text(text: &[u8]) -> Sort
     ensures { result ≡ sort_of_text text.now }
 {
     keyword_or!(text;
-        b";" => Sort::Semicolon,
-        b"(" => Sort::Open,
-        b")" => Sort::Close,
-        b"+" => Sort::Plus,
-        b"-" => Sort::Minus,
-        b"VERSION" => Sort::Version,
-        b"5.8" => Sort::Edition,
-        b"DIVIDERCHAR" => Sort::DividerChar,
-        b"BUSBITCHARS" => Sort::BusBitChars,
-        b"DESIGN" => Sort::Design,
-        b"UNITS" => Sort::Units,
-        b"DISTANCE" => Sort::Distance,
-        b"MICRONS" => Sort::Microns,
-        b"DIEAREA" => Sort::DieArea,
-        b"VIAS" => Sort::Vias,
-        b"VIARULE" => Sort::ViaRule,
-        b"CUTSIZE" => Sort::CutSize,
-        b"LAYERS" => Sort::Layers,
-        b"CUTSPACING" => Sort::CutSpacing,
-        b"ENCLOSURE" => Sort::Enclosure,
-        b"ROWCOL" => Sort::RowCol,
-        b"END" => Sort::End,
-        b"SPECIALNETS" => Sort::SpecialNets,
-        b"USE" => Sort::Use,
-        b"POWER" => Sort::Supply,
-        b"GROUND" => Sort::Supply,
-        b"ROUTED" => Sort::Routed,
-        b"NEW" => Sort::New,
-        b"SHAPE" => Sort::Shape,
-        b"STRIPE" => Sort::Stripe,
-        b"RING" => Sort::Drawn,
-        b"FOLLOWPIN" => Sort::Drawn;
+        b";" => Sort::Semicolon, b"(" => Sort::Open, b")" => Sort::Close, b"+" => Sort::Plus, b"-" => Sort::Minus,
+        b"VERSION" => Sort::Version, b"5.8" => Sort::Edition, b"DIVIDERCHAR" => Sort::DividerChar,
+        b"BUSBITCHARS" => Sort::BusBitChars, b"DESIGN" => Sort::Design, b"UNITS" => Sort::Units,
+        b"DISTANCE" => Sort::Distance, b"MICRONS" => Sort::Microns, b"DIEAREA" => Sort::DieArea, b"VIAS" => Sort::Vias,
+        b"VIARULE" => Sort::ViaRule, b"CUTSIZE" => Sort::CutSize, b"LAYERS" => Sort::Layers,
+        b"CUTSPACING" => Sort::CutSpacing, b"ENCLOSURE" => Sort::Enclosure, b"ROWCOL" => Sort::RowCol,
+        b"END" => Sort::End, b"SPECIALNETS" => Sort::SpecialNets, b"USE" => Sort::Use, b"POWER" => Sort::Supply,
+        b"GROUND" => Sort::Supply, b"ROUTED" => Sort::Routed, b"NEW" => Sort::New, b"SHAPE" => Sort::Shape,
+        b"STRIPE" => Sort::Stripe, b"RING" => Sort::Drawn, b"FOLLOWPIN" => Sort::Drawn;
         Sort::Other)
 }
 

@@ -53,6 +53,16 @@ asked_of act word = record { act = act; path = no_path; word = word }
 abbrev with_asked : Said → List Asked → Said
 with_asked said asked = record said { asked = asked }
 
+-- What the words of a use ask.
+abbrev plus_asked : (ℕ → Place) → Asked
+plus_asked f = asked_of (acts.Goes stages.Part) (tok (f 0) (codes "+"))
+
+abbrev use_asked : (ℕ → Place) → Asked
+use_asked f = asked_of (acts.Goes stages.Parts) (tok (f 1) (codes "USE"))
+
+abbrev supply_asked : (ℕ → Place) → List ℕ → Asked
+supply_asked f supply = asked_of (acts.Goes stages.Parts) (tok (f 2) supply)
+
 pub supply_written : (supply : List ℕ) → (supply ≡ codes "POWER") ⊎ (supply ≡ codes "GROUND") → IsWritten (bare supply)
 supply_written supply (inl e) = subst (λ z. IsWritten (bare z)) (sym e) (known (codes "POWER") refl)
 supply_written supply (inr e) = subst (λ z. IsWritten (bare z)) (sym e) (known (codes "GROUND") refl)
@@ -105,6 +115,12 @@ module _ (F : Type 0) where
         leads = refl;
       }
 
+  -- The supply is heard behind the other words of its use.
+  abbrev SupplyTakes : List ℕ → Said → List ℕ → (ℕ → Place) → Type 0
+  SupplyTakes name said supply f = Takes F (use_state name cues.Use stages.Parts (with_asked said (plus_asked f ∷ use_asked f ∷ [])))
+      (tok (f 2) supply ∷ [])
+      (in_net name (bytes_eq supply (codes "POWER")) cues.Nothing stages.Parts no_path (with_asked said (plus_asked f ∷ use_asked f ∷ supply_asked f supply ∷ [])))
+
   -- The words of the use lead on.
   record UseLeads (name : List ℕ) (said : Said) (supply : List ℕ) (f : ℕ → Place) : Type 0 where
     asked : List Asked
@@ -112,14 +128,14 @@ module _ (F : Type 0) where
     leads : Leads F (use_state name cues.Nothing stages.Parts (with_asked said [])) (units_of f (singles (bares (codes "+" ∷ codes "USE" ∷ supply ∷ []))))
         (in_net name (bytes_eq supply (codes "POWER")) cues.Nothing stages.Parts no_path (with_asked said asked))
 
-  power_leads : (name : List ℕ) (said : Said) (f : ℕ → Place) → UseLeads name said (codes "POWER") f
-  power_leads name said f =
-      let a : Asked = asked_of (acts.Goes stages.Part) (tok (f 0) (codes "+")) in
-      let b : Asked = asked_of (acts.Goes stages.Parts) (tok (f 1) (codes "USE")) in
-      let c : Asked = asked_of (acts.Goes stages.Parts) (tok (f 2) (codes "POWER")) in
+  -- They do so where the last of them, the supply, does.
+  supply_leads : (name : List ℕ) (said : Said) (supply : List ℕ) (f : ℕ → Place) → IsWritten (bare supply) → SupplyTakes name said supply f → UseLeads name said supply f
+  supply_leads name said supply f word last =
+      let a : Asked = plus_asked f in
+      let b : Asked = use_asked f in
       record {
-        asked = a ∷ b ∷ c ∷ [];
-        word = known (codes "POWER") refl;
+        asked = a ∷ b ∷ supply_asked f supply ∷ [];
+        word = word;
         leads = (
           use_state name cues.Part stages.Part (with_asked said (a ∷ [])),
           record { some = omega arith; matches = (a.word, refl, refl); fine = λ ok. (λ x faulty. faulty.1, tt); goes_on = refl; leads = refl },
@@ -127,52 +143,35 @@ module _ (F : Type 0) where
             use_state name cues.Use stages.Parts (with_asked said (a ∷ b ∷ [])),
             record { some = omega arith; matches = (b.word, refl, refl); fine = λ ok. (λ x faulty. faulty.1, tt); goes_on = refl; leads = refl },
             (
-              in_net name true cues.Nothing stages.Parts no_path (with_asked said (a ∷ b ∷ c ∷ [])),
-              record {
-                some = omega arith;
-                matches = (c.word, refl, refl);
-                fine = λ ok. (λ x faulty. elim faulty.1.1 [ inl one ↦ one.0 | inr more ↦ (elim more.1 [ inl two ↦ two.0 | inr none ↦ none.1 ]) ], tt);
-                goes_on = refl;
-                leads = refl;
-              },
+              in_net name (bytes_eq supply (codes "POWER")) cues.Nothing stages.Parts no_path (with_asked said (a ∷ b ∷ supply_asked f supply ∷ [])),
+              last,
               refl,
             ),
           ),
         );
       }
 
-  ground_leads : (name : List ℕ) (said : Said) (f : ℕ → Place) → UseLeads name said (codes "GROUND") f
-  ground_leads name said f =
-      let a : Asked = asked_of (acts.Goes stages.Part) (tok (f 0) (codes "+")) in
-      let b : Asked = asked_of (acts.Goes stages.Parts) (tok (f 1) (codes "USE")) in
-      let c : Asked = asked_of (acts.Goes stages.Parts) (tok (f 2) (codes "GROUND")) in
-      record {
-        asked = a ∷ b ∷ c ∷ [];
-        word = known (codes "GROUND") refl;
-        leads = (
-          use_state name cues.Part stages.Part (with_asked said (a ∷ [])),
-          record { some = omega arith; matches = (a.word, refl, refl); fine = λ ok. (λ x faulty. faulty.1, tt); goes_on = refl; leads = refl },
-          (
-            use_state name cues.Use stages.Parts (with_asked said (a ∷ b ∷ [])),
-            record { some = omega arith; matches = (b.word, refl, refl); fine = λ ok. (λ x faulty. faulty.1, tt); goes_on = refl; leads = refl },
-            (
-              in_net name false cues.Nothing stages.Parts no_path (with_asked said (a ∷ b ∷ c ∷ [])),
-              record {
-                some = omega arith;
-                matches = (c.word, refl, refl);
-                fine = λ ok. (λ x faulty. elim faulty.1.1 [ inl one ↦ one.0 | inr more ↦ (elim more.1 [ inl two ↦ two.0 | inr none ↦ none.1 ]) ], tt);
-                goes_on = refl;
-                leads = refl;
-              },
-              refl,
-            ),
-          ),
-        );
-      }
+  power_takes : (name : List ℕ) (said : Said) (f : ℕ → Place) → SupplyTakes name said (codes "POWER") f
+  power_takes name said f = record {
+    some = omega arith;
+    matches = (tok (f 2) (codes "POWER"), refl, refl);
+    fine = λ ok. (λ x faulty. elim faulty.1.1 [ inl one ↦ one.0 | inr more ↦ (elim more.1 [ inl two ↦ two.0 | inr none ↦ none.1 ]) ], tt);
+    goes_on = refl;
+    leads = refl;
+  }
+
+  ground_takes : (name : List ℕ) (said : Said) (f : ℕ → Place) → SupplyTakes name said (codes "GROUND") f
+  ground_takes name said f = record {
+    some = omega arith;
+    matches = (tok (f 2) (codes "GROUND"), refl, refl);
+    fine = λ ok. (λ x faulty. elim faulty.1.1 [ inl one ↦ one.0 | inr more ↦ (elim more.1 [ inl two ↦ two.0 | inr none ↦ none.1 ]) ], tt);
+    goes_on = refl;
+    leads = refl;
+  }
 
   use_leads : (name : List ℕ) (said : Said) (supply : List ℕ) → (supply ≡ codes "POWER") ⊎ (supply ≡ codes "GROUND") → (f : ℕ → Place) → UseLeads name said supply f
-  use_leads name said supply (inl e) f = subst (λ z. UseLeads name said z f) (sym e) (power_leads name said f)
-  use_leads name said supply (inr e) f = subst (λ z. UseLeads name said z f) (sym e) (ground_leads name said f)
+  use_leads name said supply (inl e) f = subst (λ z. UseLeads name said z f) (sym e) (supply_leads name said (codes "POWER") f (known (codes "POWER") refl) (power_takes name said f))
+  use_leads name said supply (inr e) f = subst (λ z. UseLeads name said z f) (sym e) (supply_leads name said (codes "GROUND") f (known (codes "GROUND") refl) (ground_takes name said f))
 
   -- ## an entry
 

@@ -18,7 +18,7 @@ use Rattle.grid_stacks.specs.inside.Bar.{bar_run}
 use Rattle.grid_pieces.specs.declared.piece.Piece.{Piece}
 use Rattle.grid_stacks.specs.Crossing.{At, LiesBetween, Cross, IsObstructed, IsUsed, crossing_of, site_of, limit_of}
 use Rattle.via_arrays.specs.Choice.{direction}
-use Rattle.grid_stacks.specs.Stacking.{most_stacks}
+use Rattle.grid_stacks.specs.Stacking.{AreDifferent, AreMany}
 
 -- The first place of a layer, or the number of all.
 pub record IsFirstPlace (order : List LayerRef) (layer : LayerRef) (place : ℕ) : Type 0 where
@@ -90,14 +90,6 @@ bar_site connect flat upright = record {
   max_columns = limit_of connect.max_columns;
   max_rows = limit_of connect.max_rows;
 }
-
--- No two sites are alike.
-abbrev pub AreDifferent : List Site → Type 0
-AreDifferent sites = AllPairs (λ a b. a ≢ b) sites
-
--- More sites than are asked for.
-abbrev pub AreMany : List Site → Type 0
-AreMany sites = most_stacks < length sites
 
 -- The sites of this flat bar are added that fit into a run, those of the upright bars with the property.
 pub record RunAdded (connect : Connect) (flat : Bar) (run : Run) (uprights : List Bar) (Is : ℕ
@@ -227,12 +219,6 @@ pub record SitesAdded (P : Site → Type 0) (old new : List Site) : Type 0 where
   pub longer : length old ≤ length new
   pub each : All (λ s. Contains old s ⊎ P s) new
   pub differ : AreDifferent new
-
--- All different sites with the property, or too many.
-pub record AreStanding (P : Site → Type 0) (sites : List Site) : Type 0 where
-  pub each : All P sites
-  pub differ : AreDifferent sites
-  pub every : AreMany sites ⊎ ((s : Site) → P s → Contains sites s)
 
 -- The connect has the layers of this one.
 abbrev pub HasLayers : Connect → Connect → Type 0

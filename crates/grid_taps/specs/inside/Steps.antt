@@ -1,6 +1,5 @@
 -- What the steps to pads and taps keep.
 use Rattle.std.specs.Prelude.{◌≡◌, ℕ, ℤ, min, List, map, Contains, length, slice_index_or, Option, MatchOption, Some, None}
-use Rattle.bias_file.specs.declared.record.Amps.{Amps}
 use Rattle.bias_file.specs.declared.record.Supply.{Supply}
 use Rattle.grid_pieces.specs.declared.piece.Piece.{Piece}
 use Rattle.grid_pieces.specs.Line.{piece_rect}
@@ -20,9 +19,6 @@ NumberAmong {X} number_of P xs n = Among (λ (x : X). (number_of x ≡ n) × P x
 
 abbrev pub supply_names : List Supply → List (List ℕ)
 supply_names supplies = map (λ (s : Supply). s.net) supplies
-
-abbrev pub amps_names : List Amps → List (List ℕ)
-amps_names lines = map (λ (a : Amps). a.name) lines
 
 -- ## supplies
 

@@ -1,8 +1,8 @@
-use Rattle.std.proofs.Common.{◌≡◌, refl, sym, ap, subst, ◌∙◌}
+use Rattle.std.proofs.Common.{◌≡◌, refl, sym, ap, subst, ◌∙◌, arith}
 use Rattle.std.proofs.lemmas.Result.{IfOk-weaker}
 use Rattle.building.specs.Building.{base_of}
-use Rattle.building.specs.inside.Stages.{outputs_of}
-use Rattle.building.proofs.Building.{same_outputs}
+use Rattle.building.specs.Laws.Same.{same_outputs}
+use Rattle.building.specs.Stages.{outputs_of}
 use Rattle.building.proofs.Naming.{are_names}
 use Rattle.grid_signing.specs.Basis.{Base, BaseKeeps}
 use Rattle.grid_signing.specs.Checked.{Signs}
@@ -21,10 +21,16 @@ sign_grid-requires-clause-grid g c =
     let grid = c.args.grid.now in
     let keep = c.requires.keep in
     let stands = c.requires.stands in
+    let drawing = c.requires.grid in
+    let keeps = c.drawings_are_grids.ensures.keeps r.tech r.cells r.design r.script grid keep.tech keep.cells keep.design keep.script drawing stands.pieces stands.stacks stands.few_pieces stands.few_stacks in
+    let same = drawing.units in
+    let least = keeps.units.0 in
+    let most = keeps.units.1 in
     let can : CanBeSigned (base_of r) grid = record {
-      keeps = c.drawings_are_grids.ensures.keeps r.tech r.cells r.design r.script grid keep.tech keep.cells keep.design keep.script c.requires.grid stands.pieces stands.stacks stands.few_pieces stands.few_stacks;
-      names = are_names r grid keep c.requires.grid;
-      branches = λ e network. c.branches_are_of_the_grid.ensures.branches r.tech r.cells r.design r.script grid r.bias e keep.tech keep.cells keep.design keep.script c.requires.grid stands.pieces stands.stacks stands.few_pieces stands.few_stacks network;
+      keeps = keeps;
+      names = are_names r grid keep drawing;
+      branches = λ e is. c.branches_are_of_the_grid.ensures.branches r.tech grid drawing.plan.connects drawing.plan.blocks drawing.plan.units e keep.tech (omega arith, omega arith) stands.pieces drawing.stacks
+          (record { pads = is.pads; taps = is.taps; network = is.network });
     } in
     subst (λ (b : Base). CanBeSigned b grid) (sym c.basis_of.ensures) can
 

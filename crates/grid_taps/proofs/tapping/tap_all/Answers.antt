@@ -2,7 +2,8 @@ use Rattle.std.proofs.Common.{Bool, true, List, sym, subst}
 use Rattle.def_design.specs.declared.record.Component.{Component}
 use Rattle.grid_taps.specs.Naming.{At, IsLeast}
 use Rattle.grid_taps.specs.Taps.{IsLoadOff}
-use Rattle.grid_taps.specs.inside.Tapping.{AddsTaps, AreAllTapped, IsOff}
+use Rattle.grid_taps.specs.Tables.{AddsTaps, IsOff}
+use Rattle.grid_taps.specs.inside.Tapping.{AreAllTapped}
 use Rattle.grid_taps.proofs.TapSteps.{tapped_more, first_off, tapped_all}
 use Rattle.grid_taps.proofs.tapping.tap_all.Goals as goal
 

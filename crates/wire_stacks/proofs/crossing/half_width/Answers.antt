@@ -11,10 +11,8 @@ use Rattle.wire_stacks.proofs.crossing.half_width.Goals as goal
 pub loop-via-preserved : goal.loop-via-preserved
 loop-via-preserved c =
     let d : ViaAt = record { net = 0; x = pos 0; y = pos 0; layer = 0; held = false; via = 0; number = 0 } in
-    let vias = c.args.vias.now in
-    let chain = c.args.chain.now in
-    let i = c.loop-via.via-index in
-    let half = to_z w64 c.loop-via.half-bits in
+    let vias = c.args.vias.now in let chain = c.args.chain.now in
+    let i = c.loop-via.via-index in let half = to_z w64 c.loop-via.half-bits in
     let via = get_or chain i d in
     let one : SFits w64 c.half_width_of.result = search rules in
     let most : SFits w64 c.greater-half.result = search rules in
@@ -24,8 +22,7 @@ loop-via-preserved c =
 
 pub returns : goal.returns
 returns c =
-    let vias = c.args.vias.now in
-    let chain = c.args.chain.now in
+    let vias = c.args.vias.now in let chain = c.args.chain.now in
     let half = to_z w64 c.loop-via.half-bits in
     half_all ReachesX vias chain half c.requires.some
     (λ via other has reaches. positive_x (via_at vias via.via) other (All-contains (IsUsable vias) chain via c.requires.usable has).keeps reaches)

@@ -1,0 +1,4 @@
+-- Lemmas that crates above use.
+pub mod Naming
+pub mod Same
+pub mod Sorts

@@ -1,2 +1,0 @@
--- What only private contracts, loops and proofs speak of.
-pub mod First

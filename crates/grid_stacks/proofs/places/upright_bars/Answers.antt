@@ -1,0 +1,23 @@
+use Rattle.std.proofs.Common.{subst, arith}
+use Rattle.std.proofs.lemmas.List.{with_items_is}
+use Rattle.std.proofs.lemmas.List.Sorted.{length_permutation}
+use Rattle.std.specs.List.Sorted.{IsPermutation}
+use Rattle.geom_rect.specs.declared.direction.Axis.TheVariants.{Y}
+use Rattle.grid_stacks.proofs.Bridge.{bars_moved}
+use Rattle.grid_stacks.proofs.places.upright_bars.Goals as goal
+
+pub returns-clause-are : goal.returns-clause-are
+returns-clause-are c =
+    let kept = c.in_ok-uprights.uprights in
+    let new = c.sort_by_net.new.bars in
+    let moved : IsPermutation kept.items new = subst (λ bs. IsPermutation bs new) c.deref_mut.ensures.value c.sort_by_net.ensures.same in
+    let long = length_permutation kept.items new moved in
+    rw (with_items_is kept new (omega (arith, kept.ok.0))) (bars_moved c.args.connect.now Y c.args.pieces.now kept.items new moved c.in_ok-uprights.ensures)
+
+pub returns-clause-in_order : goal.returns-clause-in_order
+returns-clause-in_order c =
+    let kept = c.in_ok-uprights.uprights in
+    let new = c.sort_by_net.new.bars in
+    let moved : IsPermutation kept.items new = subst (λ bs. IsPermutation bs new) c.deref_mut.ensures.value c.sort_by_net.ensures.same in
+    let long = length_permutation kept.items new moved in
+    rw (with_items_is kept new (omega (arith, kept.ok.0))) c.sort_by_net.ensures.in_order

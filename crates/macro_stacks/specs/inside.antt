@@ -1,0 +1,3 @@
+-- What only private contracts, loops and proofs speak of.
+pub mod Mixed
+pub mod Places

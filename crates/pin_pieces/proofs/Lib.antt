@@ -1,0 +1,4 @@
+pub mod Growing
+pub mod Indexed
+pub mod Touching
+pub mod Answered

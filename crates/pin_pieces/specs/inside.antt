@@ -1,0 +1,2 @@
+-- What only private contracts, loops and proofs speak of.
+pub mod Steps

@@ -8,7 +8,6 @@ pub mod LinesKeep
 pub mod Lists
 pub mod RailsKeep
 pub mod Passed
-pub mod PiecesKeep
 pub mod Reaches
 pub mod ReachesKeep
 pub mod Refusals

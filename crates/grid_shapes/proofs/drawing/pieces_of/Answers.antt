@@ -3,7 +3,7 @@ use Rattle.geom_rect.specs.declared.drawn.Drawn.{Drawn}
 use Rattle.grid_pieces.specs.declared.piece.Block.{Block}
 use Rattle.grid_pieces.specs.Limits.{DrawnKeeps, OneAxis}
 use Rattle.grid_pieces.specs.Piece.{ArePieces}
-use Rattle.grid_shapes.proofs.PiecesKeep.{drawn_keep, one_axis, all_facts, all_apart}
+use Rattle.grid_shapes.specs.Laws.PiecesKeep.{drawn_keep, one_axis, all_facts, all_apart}
 use Rattle.grid_shapes.proofs.drawing.pieces_of.Goals as goal
 
 pub pieces-requires : goal.pieces-requires

@@ -1,7 +1,7 @@
 use Rattle.std.proofs.Common.{List, All, subst, sym}
 use Rattle.grid_stacks.specs.declared.connect.Connect.{Connect}
 use Rattle.grid_stacks.specs.Stacking.{ConnectKeeps}
-use Rattle.grid_shapes.proofs.PiecesKeep.{all_layers, all_even, all_along, all_stacks}
+use Rattle.grid_shapes.specs.Laws.PiecesKeep.{all_layers, all_even, all_along, all_stacks}
 use Rattle.grid_shapes.proofs.drawing.stacks_of.Goals as goal
 
 pub stacks-requires-clause-units : goal.stacks-requires-clause-units

@@ -1,4 +1,4 @@
--- What the pieces and stacks of a drawing keep.
+-- What pieces and stacks keep where shapes do.
 use Rattle.std.proofs.Common.{◌≡◌, ℕ, ◌-◌, ◌<◌, ℤ, pos, ◌+ℤ◌, ◌-ℤ◌, ◌≤ℤ◌, true, false, List, All, AllPairs, length, get_or, refl, sym, ap, ◌∙◌, arith, subst, Ordering}
 use Rattle.std.specs.declared.cmp.Ordering.TheVariants.{Equal}
 use Rattle.std.specs.Ordering.{nat_cmp, int_cmp, ordering_then, is_lt}

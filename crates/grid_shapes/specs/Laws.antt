@@ -1,0 +1,3 @@
+-- Lemmas that crates above use.
+pub mod PiecesKeep
+pub mod Plain

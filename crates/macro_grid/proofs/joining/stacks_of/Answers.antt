@@ -1,0 +1,29 @@
+use Rattle.std.proofs.Common.{List, All, subst, sym}
+use Rattle.grid_stacks.specs.declared.connect.Connect.{Connect}
+use Rattle.grid_stacks.specs.Stacking.{ConnectKeeps}
+use Rattle.grid_shapes.specs.Laws.PiecesKeep.{all_layers, all_even, all_along, all_stacks}
+use Rattle.macro_grid.proofs.joining.stacks_of.Goals as goal
+
+pub stacks_of_both-requires-clause-units : goal.stacks_of_both-requires-clause-units
+stacks_of_both-requires-clause-units c = c.requires.plan.units
+
+pub stacks_of_both-requires-clause-connects : goal.stacks_of_both-requires-clause-connects
+stacks_of_both-requires-clause-connects c =
+    subst (λ (cs : List Connect). All (ConnectKeeps c.args.tech.now) cs) (sym c.as_slice-connects.ensures) c.requires.plan.connects
+
+pub stacks_of_both-requires-clause-layers : goal.stacks_of_both-requires-clause-layers
+stacks_of_both-requires-clause-layers c = all_layers c.args.tech.now c.args.plan.now c.args.pieces.now c.requires.facts
+
+pub stacks_of_both-requires-clause-even : goal.stacks_of_both-requires-clause-even
+stacks_of_both-requires-clause-even c = all_even c.args.tech.now c.args.plan.now c.args.pieces.now c.requires.facts
+
+pub stacks_of_both-requires-clause-along : goal.stacks_of_both-requires-clause-along
+stacks_of_both-requires-clause-along c =
+    all_along c.args.tech.now c.args.plan.now c.as_slice-connects.result.now c.args.pieces.now c.requires.facts
+
+pub returns-clause-facts : goal.returns-clause-facts
+returns-clause-facts c =
+    let tech = c.args.tech.now in
+    let plan = c.args.plan.now in
+    all_stacks tech plan c.args.pieces.now c.as_slice-connects.result.now c.args.blocks.now plan.units c.in_ok-stacks.stacks.items c.requires.facts
+    (subst (λ (cs : List Connect). All (ConnectKeeps tech) cs) (sym c.as_slice-connects.ensures) c.requires.plan.connects) c.in_ok-stacks.ensures

@@ -139,7 +139,7 @@ module _ (grid : Grid) (tech : Tech) (cells : Cells) (bias : Bias) where
     known = h.known;
     supplied = h.supplied;
     on_metal = λ line off. h.on_metal line (let (pad, in_list, (of_line, none)) = off in (pad, in_list, (of_line, λ number along stands. none number along (stands_in xs ys pad number along stands))));
-    on_rails = λ number off. h.on_rails number (off_in ys xs design.components number off);
+    loads_on = λ number off. h.loads_on number (off_in ys xs design.components number off);
     pads_are = pads_in xs ys pads h.pads_are;
     taps_are = taps_in xs ys design.components taps h.taps_are;
   }

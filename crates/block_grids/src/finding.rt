@@ -55,8 +55,10 @@ fn is_over_macros(grids: &[GridRule]) -> bool
     grids.iter().any(|grid| grid.macro_)
 }
 
-// The names of the macros.
-fn macros<'a>(alloc: Global, cells: &'a Cells) -> Result<NamePlaces<'a>, AllocError>
+/// The names of the macros of a library, each of which has its place in the list.
+///
+/// Error: want of memory.
+pub fn macros<'a>(alloc: Global, cells: &'a Cells) -> Result<NamePlaces<'a>, AllocError>
     ensures { IfOk result (λ macros. macros ≡ macro_names cells.now) }
 {
     let mut names: Vec<&'a [u8]> = Vec::new(alloc);
@@ -78,7 +80,8 @@ fn is_block_among<'a>(cells: &Cells, macros: &NamePlaces<'a>, components: &'a [C
     false
 }
 
-fn is_block<'a>(cells: &Cells, macros: &NamePlaces<'a>, component: &'a Component) -> bool
+/// Whether a component is a block: it is placed, and its macro, of those of the library, is of CLASS BLOCK.
+pub fn is_block<'a>(cells: &Cells, macros: &NamePlaces<'a>, component: &'a Component) -> bool
     requires { macros.now ≡ macro_names cells.now }
     ensures { result ≡ is_block cells.now component.now }
 {

@@ -8,5 +8,5 @@ mod halo;
 mod orient;
 
 pub use block::BlockAt;
-pub use finding::{blocks_of, has_blocks};
+pub use finding::{blocks_of, has_blocks, is_block, macros};
 pub use halo::{Halo, HaloError, halos_of};

@@ -1,5 +1,3 @@
 mod Naming
 mod Reading
-mod Refusing
-mod Building
 mod Sorts

@@ -1,4 +1,6 @@
 -- Lemmas that crates above use.
+pub mod Building
 pub mod Naming
+pub mod Refusing
 pub mod Same
 pub mod Sorts

@@ -1,5 +1,5 @@
 -- The grid of a drawing keeps what is asked of it.
-use Rattle.std.proofs.Common.{◌≡◌, ℕ, ◌≤◌, All, List, length, sym, subst, ap, ◌∙◌, arith}
+use Rattle.std.proofs.Common.{◌≡◌, ℕ, ◌≤◌, All, List, length, sym, subst, ap, ◌∙◌}
 use Rattle.std.specs.List.{list_any}
 use Rattle.std.specs.Str.{bytes_eq}
 use Rattle.std.proofs.lemmas.List.{length-map}
@@ -16,15 +16,11 @@ use Rattle.grid_pieces.specs.declared.grid.Grid.{Grid}
 use Rattle.grid_shapes.specs.Drawing.{IsDrawingOf, PieceStands, StackStands}
 use Rattle.grid_extract.specs.Extraction.{GridKeeps}
 use Rattle.def_writer.specs.Limits.{GridFits}
-use Rattle.drawn_grids.specs.Laws.Grids.{distinct_names, grid_keeps, grid_fits}
+use Rattle.drawn_grids.specs.Laws.Grids.{distinct_names, units_stand, grid_keeps, grid_fits}
 
 units_are : (tech : Tech) (cells : Cells) (design : Design) (script : Script) (grid : Grid) → DesignKeeps design → (drawing : IsDrawingOf tech cells design script grid)
     → IsUnits drawing.plan.units
-units_are tech cells design script grid keeps drawing =
-    let same = drawing.is_plan.plans.units in
-    let some = keeps.some_units in
-    let most = keeps.units in
-    (omega arith, omega arith)
+units_are tech cells design script grid keeps drawing = units_stand design drawing.plan.units keeps drawing.is_plan.plans.units
 
 pub drawing_keeps : (tech : Tech) (cells : Cells) (design : Design) (script : Script) (grid : Grid) → DesignKeeps design → IsDrawingOf tech cells design script grid
     → All (PieceStands tech grid) grid.pieces → All (StackStands tech grid) grid.stacks → length grid.pieces ≤ 4000000 → length grid.stacks ≤ 1000000

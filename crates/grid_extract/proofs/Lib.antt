@@ -1,3 +1,0 @@
-pub mod OnPieces
-pub mod Answers
-pub mod Agreeing

@@ -34,45 +34,65 @@ pub record GridKeeps (grid : Grid) (tech : Tech) : Type 0 where
 abbrev pub NamesNothing : Grid → Tech → Cells → Design → Bias → ℕ → Type 0
 NamesNothing grid tech cells design bias line = NamesNoNet grid tech bias line ⊎ NamesNoCell cells design bias line
 
--- The pads of the bias file and the load taps of the components, where nothing refuses them.
-pub record AllStand (grid : Grid) (tech : Tech) (cells : Cells) (design : Design) (bias : Bias) (pads : List PadOn)
-    (taps : List Tap) : Type 0 where
+-- The pads of the bias file and the load taps of the components, where nothing refuses them, and where it is said which components
+-- draw a current and have no tap, and which taps all have.
+pub record AllStandWith (IsOff : ℕ → Type 0) (AreLoads : List Tap → Type 0) (grid : Grid) (tech : Tech) (cells : Cells)
+    (design : Design) (bias : Bias) (pads : List PadOn) (taps : List Tap) : Type 0 where
   pub known : NoneIs (NamesNothing grid tech cells design bias)
   pub supplied : NoneIs (LacksSupply grid bias)
   pub on_metal : NoneIs (IsPadOff grid tech bias)
-  pub on_rails : NoneIs (IsLoadOff grid cells bias design.components)
+  pub loads_on : NoneIs IsOff
   pub pads_are : ArePads grid tech bias pads
-  pub taps_are : AreTaps grid cells bias design.components taps
+  pub taps_are : AreLoads taps
 
 -- The grid with its pads and its load taps.
 abbrev pub drawing_of : Grid → List PadOn → List Tap → Drawing
 drawing_of grid pads taps = record { grid = grid; pads = pads; taps = taps }
 
--- The answer: nothing refuses the pads and the taps, and it is the network of the grid with them.
-pub record IsExtracted (grid : Grid) (tech : Tech) (cells : Cells) (design : Design) (bias : Bias) (e : Extracted)
-    : Type 0 where
+-- The network: nothing refuses the pads and the taps, and it is the network of the grid with them.
+pub record IsExtractedWith (IsOff : ℕ → Type 0) (AreLoads : List Tap → Type 0) (grid : Grid) (tech : Tech) (cells : Cells)
+    (design : Design) (bias : Bias) (e : Extracted) : Type 0 where
   pub pads : List PadOn
   pub taps : List Tap
-  pub stand : AllStand grid tech cells design bias pads taps
+  pub stand : AllStandWith IsOff AreLoads grid tech cells design bias pads taps
   pub network : IsNetworkOf (drawing_of grid pads taps) tech e
 
 -- The network of the grid with its pads and taps is refused.
-pub record IsNetRefused (grid : Grid) (tech : Tech) (cells : Cells) (design : Design) (bias : Bias)
-    (error : ExtractError) : Type 0 where
+pub record IsNetRefusedWith (IsOff : ℕ → Type 0) (AreLoads : List Tap → Type 0) (grid : Grid) (tech : Tech) (cells : Cells)
+    (design : Design) (bias : Bias) (error : ExtractError) : Type 0 where
   pub pads : List PadOn
   pub taps : List Tap
-  pub stand : AllStand grid tech cells design bias pads taps
+  pub stand : AllStandWith IsOff AreLoads grid tech cells design bias pads taps
   pub refused : IsRefused (drawing_of grid pads taps) tech error
 
 -- The refusals, in their order; of one kind the earliest line, net or component is named. Want of memory is free.
+abbrev pub IsExtractRefusedWith : (ℕ → Type 0) → (List Tap → Type 0) → Grid → Tech → Cells → Design → Bias → ExtractError → Type 0
+IsExtractRefusedWith IsOff AreLoads grid tech cells design bias (UnknownName line) =
+    IsLeast (NamesNothing grid tech cells design bias) line
+IsExtractRefusedWith IsOff AreLoads grid tech cells design bias (NoSupply net) =
+    NoneIs (NamesNothing grid tech cells design bias) × IsLeast (LacksSupply grid bias) net
+IsExtractRefusedWith IsOff AreLoads grid tech cells design bias (PadOff line) =
+    NoneIs (NamesNothing grid tech cells design bias) × NoneIs (LacksSupply grid bias) × IsLeast (IsPadOff grid tech bias) line
+IsExtractRefusedWith IsOff AreLoads grid tech cells design bias (LoadOff component) =
+    NoneIs (NamesNothing grid tech cells design bias) × NoneIs (LacksSupply grid bias) × NoneIs (IsPadOff grid tech bias)
+    × IsLeast IsOff component
+IsExtractRefusedWith IsOff AreLoads grid tech cells design bias (Net error) =
+    IsNetRefusedWith IsOff AreLoads grid tech cells design bias (Net error)
+IsExtractRefusedWith IsOff AreLoads grid tech cells design bias Want = Unit {0}
+
+-- ## load taps on rails
+
+-- The pads of the bias file and the load taps of the components on rails, where nothing refuses them.
+abbrev pub AllStand : Grid → Tech → Cells → Design → Bias → List PadOn → List Tap → Type 0
+AllStand grid tech cells design bias pads taps = AllStandWith (IsLoadOff grid cells bias design.components)
+    (AreTaps grid cells bias design.components) grid tech cells design bias pads taps
+
+-- The answer: the network with the load taps of all components on rails.
+abbrev pub IsExtracted : Grid → Tech → Cells → Design → Bias → Extracted → Type 0
+IsExtracted grid tech cells design bias e = IsExtractedWith (IsLoadOff grid cells bias design.components)
+    (AreTaps grid cells bias design.components) grid tech cells design bias e
+
+-- Its refusals.
 abbrev pub IsExtractRefused : Grid → Tech → Cells → Design → Bias → ExtractError → Type 0
-IsExtractRefused grid tech cells design bias (UnknownName line) = IsLeast (NamesNothing grid tech cells design bias) line
-IsExtractRefused grid tech cells design bias (NoSupply net) = NoneIs (NamesNothing grid tech cells design bias)
-    × IsLeast (LacksSupply grid bias) net
-IsExtractRefused grid tech cells design bias (PadOff line) = NoneIs (NamesNothing grid tech cells design bias)
-    × NoneIs (LacksSupply grid bias) × IsLeast (IsPadOff grid tech bias) line
-IsExtractRefused grid tech cells design bias (LoadOff component) = NoneIs (NamesNothing grid tech cells design bias)
-    × NoneIs (LacksSupply grid bias) × NoneIs (IsPadOff grid tech bias)
-    × IsLeast (IsLoadOff grid cells bias design.components) component
-IsExtractRefused grid tech cells design bias (Net error) = IsNetRefused grid tech cells design bias (Net error)
-IsExtractRefused grid tech cells design bias Want = Unit {0}
+IsExtractRefused grid tech cells design bias error = IsExtractRefusedWith (IsLoadOff grid cells bias design.components)
+    (AreTaps grid cells bias design.components) grid tech cells design bias error

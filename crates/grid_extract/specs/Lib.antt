@@ -1,2 +1,3 @@
 pub mod Extraction
 pub mod First
+pub mod Laws

@@ -17,8 +17,8 @@ use crate::over::free_runs;
 use geom_rect::Run;
 use std::alloc::{AllocError, Global};
 
-// More sites than this are not asked for.
-pub(crate) const MOST_STACKS: usize = 1_000_000;
+/// How many stacks a grid may have.
+pub const MOST_STACKS: usize = 1_000_000;
 
 // Adds the sites of a connect at which nothing obstructs a stack, or so many that they are too many.
 //

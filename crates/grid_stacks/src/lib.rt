@@ -14,6 +14,7 @@ mod places;
 mod stacking;
 
 pub use connect::{Connect, Site};
+pub use crossed::MOST_STACKS;
 pub use laws::{one_site_at_a_place, stacks_can_be_asked_for};
 pub use places::standing;
-pub use stacking::{stacks, stacks_at, without_sheet};
+pub use stacking::{MOST_PIECES, stacks, stacks_at, without_sheet};

@@ -16,7 +16,8 @@ use lef_tech::Tech;
 use std::alloc::{AllocError, Global};
 use via_arrays::{StackError, stack};
 
-const MOST_PIECES: usize = 4_000_000;
+/// How many pieces a grid may have.
+pub const MOST_PIECES: usize = 4_000_000;
 
 /// The stacks of the pieces: one at each crossing of two pieces of one net on the layers of a connect that no blockage
 /// of a layer strictly between overlaps, in the order of net, x, y, lowest layer, highest layer and crossing. Of two

@@ -3,9 +3,7 @@ pub mod Found
 pub mod Pieces
 pub mod RailLemmas
 pub mod RailSteps
-pub mod Ordered
 pub mod OnPieces
-pub mod Unique
 pub mod Supplies
 pub mod Tables
 pub mod Unknown

@@ -21,7 +21,7 @@ use Rattle.grid_taps.specs.Pads.{IsInUnits, place_along, IsSupply, IsPadOn, AreO
 use Rattle.grid_taps.specs.inside.Steps.{piece_entry, ArePieceEntries}
 use Rattle.grid_taps.specs.inside.Standing.{IsSpot, HasSpot, AreFound, pad_on, StandsWith, AreOnWith}
 use Rattle.grid_taps.proofs.OnPieces.{AreOnUpTo, pads_more, pads_kept, every_one}
-use Rattle.grid_taps.proofs.Unique.{one_named, one_at}
+use Rattle.grid_taps.specs.Laws.Unique.{one_named, one_at}
 
 -- ## the index of pieces
 

@@ -16,7 +16,7 @@ use Rattle.grid_taps.specs.Refusals.{LacksSupply}
 use Rattle.grid_taps.specs.inside.Steps.{lesser, NumberAmong}
 use Rattle.grid_taps.specs.inside.Standing.{AreNetsOf}
 use Rattle.grid_taps.proofs.Firsts.{first_none, more_at, kept_at}
-use Rattle.grid_taps.proofs.Ordered.{order_more}
+use Rattle.grid_taps.specs.Laws.Ordered.{order_more}
 
 nothing : PadOn
 nothing = record { piece = 0; along = pos 0; volts = pos 0 }

@@ -24,5 +24,5 @@ refused grid cells design bias Want known h = tt
 pub taps_answer : (grid : Grid) (cells : Cells) (design : Design) (bias : Bias) (r : Result (Vec Tap Global) ExtractError) → NoneIs (NamesNoCell cells design bias)
     → MatchResult r (λ taps. AreAllTapped grid cells bias design.components taps.items) (IsTapRefused grid cells bias design.components)
     → MatchResult r (λ taps. TapsStand grid cells design bias taps.items) (AreTapsRefused grid cells design bias)
-taps_answer grid cells design bias (Ok taps) known h = record { known = known; on_rails = h.none_off; are = h.are }
+taps_answer grid cells design bias (Ok taps) known h = record { known = known; on_metal = h.none_off; are = h.are }
 taps_answer grid cells design bias (Err error) known h = refused grid cells design bias error known h

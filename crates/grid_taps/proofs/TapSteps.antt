@@ -16,8 +16,8 @@ use Rattle.grid_taps.specs.Pads.{InOrder}
 use Rattle.grid_taps.specs.Taps.{AreTapsFor, IsLoadOff}
 use Rattle.grid_taps.specs.Tables.{AreTablesOf, IsOff, AddsTaps}
 use Rattle.grid_taps.specs.inside.Tapping.{AreAllTapped}
-use Rattle.grid_taps.proofs.Ordered.{order_more}
-use Rattle.grid_taps.proofs.Unique.{one_at, not_off}
+use Rattle.grid_taps.specs.Laws.Ordered.{order_more}
+use Rattle.grid_taps.specs.Laws.Unique.{one_at, not_off}
 
 pub zero_less : (z : ℤ) → pos 0 -ℤ z ≡ neg_ℤ z
 zero_less z = omega (arith, ints)

@@ -1,3 +1,4 @@
+pub mod Laws
 pub mod Naming
 pub mod Pads
 pub mod Rails

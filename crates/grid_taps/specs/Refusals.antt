@@ -47,16 +47,26 @@ ArePadsRefused grid tech bias (PadOff line) = NoneIs (NamesNoNet grid tech bias)
 ArePadsRefused grid tech bias Want = Unit {0}
 ArePadsRefused grid tech bias _ = ⊥
 
--- The answer of `taps`: nothing refuses them.
-pub record TapsStand (grid : Grid) (cells : Cells) (design : Design) (bias : Bias) (taps : List Tap) : Type 0 where
+-- Load taps, where it is said which components draw a current and have none, and which taps all have: nothing refuses them.
+pub record TapsStandWith (IsOff : ℕ → Type 0) (AreLoads : List Tap → Type 0) (cells : Cells) (design : Design) (bias : Bias)
+    (taps : List Tap) : Type 0 where
   pub known : NoneIs (NamesNoCell cells design bias)
-  pub on_rails : NoneIs (IsLoadOff grid cells bias design.components)
-  pub are : AreTaps grid cells bias design.components taps
+  pub on_metal : NoneIs IsOff
+  pub are : AreLoads taps
 
--- Its refusals, in their order; of one kind the earliest line or component is named.
+-- Their refusals, in their order; of one kind the earliest line or component is named.
+abbrev pub AreTapsRefusedWith : (ℕ → Type 0) → Cells → Design → Bias → ExtractError → Type 0
+AreTapsRefusedWith IsOff cells design bias (UnknownName line) = IsLeast (NamesNoCell cells design bias) line
+AreTapsRefusedWith IsOff cells design bias (LoadOff component) = NoneIs (NamesNoCell cells design bias) × IsLeast IsOff component
+AreTapsRefusedWith IsOff cells design bias Want = Unit {0}
+AreTapsRefusedWith IsOff cells design bias _ = ⊥
+
+-- The answer of `taps`, whose load taps stand on rails.
+abbrev pub TapsStand : Grid → Cells → Design → Bias → List Tap → Type 0
+TapsStand grid cells design bias taps = TapsStandWith (IsLoadOff grid cells bias design.components)
+    (AreTaps grid cells bias design.components) cells design bias taps
+
+-- Its refusals.
 abbrev pub AreTapsRefused : Grid → Cells → Design → Bias → ExtractError → Type 0
-AreTapsRefused grid cells design bias (UnknownName line) = IsLeast (NamesNoCell cells design bias) line
-AreTapsRefused grid cells design bias (LoadOff component) = NoneIs (NamesNoCell cells design bias)
-    × IsLeast (IsLoadOff grid cells bias design.components) component
-AreTapsRefused grid cells design bias Want = Unit {0}
-AreTapsRefused grid cells design bias _ = ⊥
+AreTapsRefused grid cells design bias error =
+    AreTapsRefusedWith (IsLoadOff grid cells bias design.components) cells design bias error

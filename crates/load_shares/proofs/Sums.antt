@@ -1,14 +1,12 @@
--- The shares of a load: their sum, and that they rise with the load.
-use Rattle.std.proofs.Common.{◌≡◌, ℕ, zero, suc, ◌+◌, ◌*◌, ◌/◌, ◌%◌, ◌<◌, ◌≤◌, min, ℤ, pos, negsuc, neg_ℤ, ◌+ℤ◌, ◌≤ℤ◌, unsigned_abs, cond, ltb, map, refl, sym, ap, ◌∙◌, subst, arith, div-add-mod', mod-lt, ◌⊎◌, inl, inr, mul-le-mul_right, All, SFits, w64, to_z, of_z}
+-- The shares of a load: their sum, and that each rises where the load does.
+use Rattle.std.proofs.Common.{◌≡◌, ℕ, zero, suc, ◌+◌, ◌*◌, ◌/◌, ◌%◌, ◌<◌, ◌≤◌, min, ℤ, pos, negsuc, neg_ℤ, ◌+ℤ◌, ◌≤ℤ◌, unsigned_abs, cond, ltb, map, refl, sym, ap, ◌∙◌, subst, arith, div-add-mod', mod-lt, mul-le-mul_right, All, SFits, w64, to_z, of_z}
 use Rattle.std.specs.List.{range_with_len}
 use Rattle.std.proofs.lemmas.Int.{ints, to_z-of_z}
-use Rattle.std.proofs.Math.Nat.{div-mul-le_self}
-use Rattle.std.proofs.lemmas.Nat.{le-div}
-use Rattle.std.proofs.lemmas.Bool.{cases_lt}
 use Rattle.std.proofs.lemmas.Bool.Decides.{nat_tests}
 use Rattle.std.proofs.lemmas.List.FromFn.{map-range_with_len_more, length-map-range_with_len, get_or-map-range_with_len}
 use Rattle.std.proofs.lemmas.List.Sums.{fold_push}
 use Rattle.load_shares.specs.declared.share.Share.{Share}
+use Rattle.load_shares.specs.Laws.Rising.{rises}
 use Rattle.load_shares.specs.Shares.{share_size, with_sign_of, end_share, share_at, shares_of, total}
 use Rattle.std.specs.Prelude.{int_div, int_rem, ◌<ℤ◌, ◌-ℤ◌}
 
@@ -97,27 +95,7 @@ less_is whole from count fits is count_fits part_fits less_fit =
     ∙ ap (λ z. to_z w64 (of_z w64 (z -ℤ pos 1))) (to_z-of_z w64 (int_div whole (pos count)) part_fits)
     ∙ to_z-of_z w64 (int_div whole (pos count) -ℤ pos 1) less_fit
 
--- Shares rise with the whole.
-size_rises : (a b count place : ℕ) → 0 < count → a ≤ b → share_size a count place ≤ share_size b count place
-size_rises a b count place some le = by_parts (cases_lt (a / count) (b / count))
-  where
-    by_parts : (a / count < b / count) ⊎ (b / count ≤ a / count) → share_size a count place ≤ share_size b count place
-    by_parts (inl less) = grind (arith, nat_tests)
-    by_parts (inr same) =
-        let rises : a / count ≤ b / count = le-div (a / count) b count some (omega (arith, div-mul-le_self a count)) in
-        let equal : a / count ≡ b / count = omega arith in
-        let shared : a / count * count ≡ b / count * count = ap (λ q. q * count) equal in
-        let one = div-add-mod' a count in
-        let other = div-add-mod' b count in
-        let rest : a % count ≤ b % count = omega arith in
-        grind (arith, nat_tests)
-
-pub rises : (low high : ℤ) (count place : ℕ) → 0 < count → low ≤ℤ high → end_share low count place ≤ℤ end_share high count place
-rises (pos a) (pos b) count place some le = omega (arith, ints, size_rises a b count place some (omega (arith, ints)))
-rises (pos a) (negsuc b) count place some le = absurd (omega (arith, ints))
-rises (negsuc a) (pos b) count place some le = omega (arith, ints)
-rises (negsuc a) (negsuc b) count place some le = omega (arith, ints, size_rises (suc b) (suc a) count place some (omega (arith, ints)))
-
+-- Where the load rises each share does.
 pub all_rise : (load : Share) (count : ℕ) → 0 < count → load.low ≤ℤ load.high → All (λ (s : Share). s.low ≤ℤ s.high) (shares_of load count)
 all_rise load count some le k d less =
     let within : k < count = omega (arith, length-map-range_with_len (share_at load count) 0 count) in

@@ -18,7 +18,7 @@ use Rattle.placed_blocks.specs.declared.block.PlacedBlock.{PlacedBlock}
 use Rattle.macro_shapes.specs.Shapes.{MacroLinesAreMany}
 use Rattle.macro_grid.specs.declared.error.MacroError.{MacroError}
 use Rattle.macro_grid.specs.declared.error.MacroError.TheVariants.{Halo, Draw}
-use Rattle.macro_grid.specs.Drawing.{Lays, all_blocks, AreMacroPieces, AreMacroStacks, HasNoPlan, IsDrawRefused, IsMacroRefused, without_components}
+use Rattle.macro_grid.specs.Drawing.{Lays, all_blocks, AreMacroPieces, AreMacroStacks, HasNoPlan, IsDrawRefused, IsMacroRefused, without_places}
 use Rattle.macro_grid.specs.inside.Refused.{IsUnlaid, IsUnjoined, IsUndrawn}
 use Rattle.grid_shapes.specs.Laws.Plain.{plain_refused}
 
@@ -28,9 +28,9 @@ no_plan : (tech : Tech) (cells : Cells) (blocks : Blocks) (design : Design) (scr
     → IsDrawRefused tech cells blocks design script error
 no_plan tech cells blocks design script Want has = tt
 no_plan tech cells blocks design script (TooMany Lines) has =
-    absurd (plain_refused tech cells (without_components design) script (TooMany Lines) (λ same. absurd (cc)) has.1)
+    absurd (plain_refused tech cells (without_places design) script (TooMany Lines) (λ same. absurd (cc)) has.1)
 no_plan tech cells blocks design script (Touch touching) has =
-    absurd (plain_refused tech cells (without_components design) script (Touch touching) (λ same. absurd (cc)) has.1)
+    absurd (plain_refused tech cells (without_places design) script (Touch touching) (λ same. absurd (cc)) has.1)
 no_plan tech cells blocks design script error has = inl has
 
 pub unlaid : (tech : Tech) (cells : Cells) (blocks : Blocks) (design : Design) (script : Script) (error : MacroError) → IsUnlaid tech cells design script error

@@ -1,6 +1,6 @@
 -- The drawing of a script with grids over macros over a design with blocks (OpenROAD PDN manual, define_pdn_grid: -macro; LEF/DEF
 -- 5.8 Language Reference, "MACRO", PIN and OBS).
-use Rattle.std.specs.Prelude.{◌≡◌, ◌⊎◌, ℕ, false, List, [], ◌++◌, AllPairs, map, Some, None}
+use Rattle.std.specs.Prelude.{◌≡◌, ◌⊎◌, ℕ, false, List, ◌++◌, AllPairs, map, Some, None}
 use Rattle.std.specs.List.{flat_map}
 use Rattle.std.specs.List.Sorted.{IsPermutation}
 use Rattle.std.specs.Ordering.{int_cmp, nat_cmp, ordering_then, is_gt}
@@ -11,6 +11,7 @@ use Rattle.geom_rect.specs.declared.direction.Axis.TheVariants.{X, Y}
 use Rattle.geom_rect.specs.declared.drawn.Drawn.{Drawn}
 use Rattle.lef_cells.specs.declared.record.Cells.{Cells}
 use Rattle.lef_tech.specs.declared.tech.Tech.{Tech}
+use Rattle.def_design.specs.declared.record.Component.{Component}
 use Rattle.def_design.specs.declared.record.Design.{Design}
 use Rattle.macro_blocks.specs.declared.record.Blocks.{Blocks}
 use Rattle.pdn_script.specs.declared.record.Script.{Script}
@@ -44,16 +45,19 @@ use Rattle.macro_grid.specs.declared.record.MacroGrid.{MacroGrid}
 
 -- ## the plan and the blocks
 
--- The design without its components, over which the plan of the grids is made: where blocks stand, no grid over macros is refused
--- for them.
-abbrev pub without_components : Design → Design
-without_components design = record design { components = [] }
+-- The design with no component in a place, over which the plan of the grids is made: no grid over macros is refused for a block then,
+-- and a component of a macro that is not known is refused as ever.
+abbrev pub unplaced : Component → Component
+unplaced component = record component { place = None }
+
+abbrev pub without_places : Design → Design
+without_places design = record design { components = map unplaced design.components }
 
 -- The plan of the grids, and the blocks of the design in their places.
 pub record Lays (tech : Tech) (cells : Cells) (blocks : Blocks) (design : Design) (script : Script) (plan : Plan)
     (placed : List PlacedBlock) : Type 0 where
   pub halos : first_bad design.units script ≡ None
-  pub is_plan : IsPlanOf tech cells (without_components design) script plan
+  pub is_plan : IsPlanOf tech cells (without_places design) script plan
   pub are_placed : ArePlacedBlocks tech cells blocks design script (plan_regions plan) placed
 
 -- ## blockages
@@ -168,7 +172,7 @@ pub record Touches (tech : Tech) (cells : Cells) (blocks : Blocks) (design : Des
 -- The plan of the grids is refused, and no halo is.
 abbrev pub HasNoPlan : Tech → Cells → Design → Script → DrawError → Type 0
 HasNoPlan tech cells design script error =
-    (first_bad design.units script ≡ None) × IsPlanRefused tech cells (without_components design) script error
+    (first_bad design.units script ≡ None) × IsPlanRefused tech cells (without_places design) script error
 
 -- Why no grid is drawn, of several causes the first.
 abbrev pub IsDrawRefused : Tech → Cells → Blocks → Design → Script → DrawError → Type 0

@@ -1,23 +1,23 @@
-//! A design without its components.
-ghost use Rattle.std.specs.Prelude.{◌≡◌, IfOk};
-ghost use Rattle.macro_grid.specs.Drawing.{without_components};
+//! A design with no component in a place.
+ghost use Rattle.std.specs.Prelude.{◌≡◌, IfOk, map};
+ghost use Rattle.macro_grid.specs.Drawing.{unplaced, without_places};
 
 use crate::copies::copied_name;
-use def_design::{Blockage, Design, Fence, Row};
+use def_design::{Blockage, Component, Design, Fence, Row};
 use entry_list::Entries;
 use geom_rect::Rect;
 use std::alloc::{AllocError, Global};
 
-// All of a design but its components.
-pub(crate) fn without_components(alloc: Global, design: &Design) -> Result<Design, AllocError>
-    ensures { IfOk result (λ bare. bare ≡ without_components design.now) }
+// A design, but for the places of its components.
+pub(crate) fn without_places(alloc: Global, design: &Design) -> Result<Design, AllocError>
+    ensures { IfOk result (λ bare. bare ≡ without_places design.now) }
 {
     Ok(Design {
         name: copied_name(alloc, &design.name)?,
         units: design.units,
         die: design.die,
         rows: Entries::new(copied_rows(alloc, design.rows.as_slice())?),
-        components: Entries::new(Vec::new(alloc)),
+        components: Entries::new(unplaced_components(alloc, design.components.as_slice())?),
         blockages: Entries::new(copied_blockages(alloc, design.blockages.as_slice())?),
         regions: Entries::new(copied_regions(alloc, design.regions.as_slice())?),
     })
@@ -44,6 +44,29 @@ fn copied_row(alloc: Global, row: &Row) -> Result<Row, AllocError>
         orient: row.orient,
         count: row.count,
         step: row.step,
+    })
+}
+
+fn unplaced_components(
+    alloc: Global,
+    components: &[Component],
+) -> Result<Vec<Component>, AllocError>
+    ensures { IfOk result (λ copies. copies.items ≡ map unplaced components.now) }
+{
+    let mut copies = Vec::with_capacity(alloc, components.len())?;
+    for component in components {
+        copies.push(unplaced(alloc, component)?)?;
+    }
+    Ok(copies)
+}
+
+fn unplaced(alloc: Global, component: &Component) -> Result<Component, AllocError>
+    ensures { IfOk result (λ copy. copy ≡ unplaced component.now) }
+{
+    Ok(Component {
+        name: copied_name(alloc, &component.name)?,
+        cell: copied_name(alloc, &component.cell)?,
+        place: None,
     })
 }
 

@@ -12,10 +12,10 @@ ghost use Rattle.grid_plan.specs.Planning.{IsPlanOf, IsPlanRefused};
 ghost use Rattle.block_grids.specs.Halo.{HasHalo, first_bad};
 ghost use Rattle.placed_blocks.specs.Limits.{BlockKeeps};
 ghost use Rattle.placed_blocks.specs.Placed.{ArePlacedBlocks};
-ghost use Rattle.macro_grid.specs.Drawing.{Lays, without_components};
+ghost use Rattle.macro_grid.specs.Drawing.{Lays, without_places};
 ghost use Rattle.macro_grid.specs.inside.Refused.{IsHaloRefused, IsUnlaid};
 
-use crate::bare::without_components;
+use crate::bare::without_places;
 use crate::error::MacroError;
 use block_grids::{Halo, HaloError, halos_of};
 use def_design::Design;
@@ -74,7 +74,7 @@ fn halos_in(alloc: Global, script: &Script, units: u32) -> Result<Vec<Halo>, Mac
     }
 }
 
-// The plan over the design without its components.
+// The plan over the design with no component in a place.
 fn bare_plan(
     alloc: Global,
     tech: &Tech,
@@ -86,11 +86,11 @@ fn bare_plan(
     requires cells { CellsKeep cells.now }
     requires design { DesignKeeps design.now }
     requires script { ScriptKeeps script.now }
-    ensures plan { MatchResult result (IsPlanOf tech.now cells.now (without_components design.now) script.now)
-        (IsPlanRefused tech.now cells.now (without_components design.now) script.now) }
+    ensures plan { MatchResult result (IsPlanOf tech.now cells.now (without_places design.now) script.now)
+        (IsPlanRefused tech.now cells.now (without_places design.now) script.now) }
     ensures keeps { IfOk result (PlanKeeps tech.now) }
 {
-    let bare = without_components(alloc, design)?;
+    let bare = without_places(alloc, design)?;
     plan(alloc, tech, cells, &bare, script)
 }
 

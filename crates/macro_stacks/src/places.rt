@@ -10,11 +10,9 @@ ghost use Rattle.macro_stacks.specs.inside.Places.{PiecesKeep, AreAll, AreInOrde
 
 use crate::mixed::mix;
 use grid_pieces::{Block, Counted, DrawError, Piece};
-use grid_stacks::{Connect, Site, one_site_at_a_place, standing};
+use grid_stacks::{Connect, MOST_STACKS, Site, one_site_at_a_place, standing};
 use lef_tech::Tech;
 use std::alloc::Global;
-
-const MOST_STACKS: usize = 1_000_000;
 
 // The places at which stacks of the pieces of both lists stand, in order.
 //

@@ -9,11 +9,9 @@ ghost use Rattle.grid_stacks.specs.Stacking.{ConnectKeeps, AreAlong, IsEven, Lie
 
 use crate::places::places;
 use grid_pieces::{Block, Counted, DrawError, Piece, StackAt};
-use grid_stacks::{Connect, stacks_at, stacks_can_be_asked_for, without_sheet};
+use grid_stacks::{Connect, MOST_PIECES, stacks_at, stacks_can_be_asked_for, without_sheet};
 use lef_tech::Tech;
 use std::alloc::Global;
-
-const MOST_PIECES: usize = 4_000_000;
 
 /// The stacks of pieces that come in two lists, `one` and `other`: where pieces of one line of one list lie apart, and pieces of
 /// both lists may lie over each other. One stands at each crossing of two pieces of one net on the layers of a connect that no

@@ -1,11 +1,7 @@
 pub mod Standing
-pub mod Planned
 pub mod Likened
-pub mod Shaped
-pub mod Pieced
 pub mod Counted
 pub mod Sited
-pub mod Stacked
 pub mod Restacked
 pub mod Allowed
 pub mod Refused

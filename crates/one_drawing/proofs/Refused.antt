@@ -27,14 +27,14 @@ use Rattle.grid_plan.specs.Planning.{IsPlanOf, IsPlanRefused}
 use Rattle.grid_shapes.specs.Shapes.{AreShapes, LinesAreMany}
 use Rattle.grid_shapes.specs.Drawing.{AreStacksOf, IsDrawingOf, HasPieces, HasManyLines, HasNoStacks, Touches, IsDrawRefused}
 use Rattle.one_drawing.specs.Apart.{StandApart}
-use Rattle.one_drawing.proofs.Planned.{one_plan, same_but_connects, connect_moves, no_plan, one_plan_refusal}
+use Rattle.one_drawing.specs.Laws.Planned.{one_plan, same_but_connects, connect_moves, no_plan, one_plan_refusal}
 use Rattle.one_drawing.proofs.Allowed.{allows, units_are}
 use Rattle.one_drawing.proofs.Counted.{ByDivision}
 use Rattle.one_drawing.proofs.Likened.{with_connects, shapes_move, many_move}
 use Rattle.one_drawing.proofs.Restacked.{MovesRefusals, moves_alike, moves_limits, metal_same, no_refusal, one_refusal}
-use Rattle.one_drawing.proofs.Shaped.{one_shapes, few_lines}
-use Rattle.one_drawing.proofs.Pieced.{one_pieces}
-use Rattle.one_drawing.proofs.Stacked.{OneStack, one_stacks}
+use Rattle.one_drawing.specs.Laws.Shaped.{one_shapes, few_lines}
+use Rattle.one_drawing.specs.Laws.Pieced.{one_pieces}
+use Rattle.one_drawing.specs.Laws.Stacked.{OneStack, one_stacks}
 use Rattle.one_drawing.specs.Laws.Touched.{one_first_touch}
 
 is_want : (e : DrawError) → (e ≡ errors.Want) ⊎ (e ≢ errors.Want)

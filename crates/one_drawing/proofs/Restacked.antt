@@ -24,7 +24,7 @@ use Rattle.grid_stacks.specs.Crossing.{At, Stands, limit_of}
 use Rattle.grid_stacks.specs.Stacking.{AreSites, AreStacks, AreStacksAt, AreRefused, IsStackAt, IsFirstRefused}
 use Rattle.one_drawing.proofs.Counted.{ByDivision, lowest_other}
 use Rattle.one_drawing.proofs.Sited.{bare, bare_same, bares_same, few_moves}
-use Rattle.one_drawing.proofs.Stacked.{OneStack, HasReason, reason, same_at, one_layer, all_sheets, lowest, no_site, no_stack}
+use Rattle.one_drawing.specs.Laws.Stacked.{OneStack, HasReason, reason, same_at, one_layer, all_sheets, lowest, no_site, no_stack}
 
 -- What is asked of a connect: where it limits columns or rows, it allows one.
 abbrev pub AllowsOne : Connect → Type 0

@@ -1,5 +1,2 @@
-pub mod Lists
-pub mod Tapped
-pub mod Refused
-pub mod Whole
 pub mod Limited
+pub mod Tapping

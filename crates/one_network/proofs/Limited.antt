@@ -24,7 +24,7 @@ use Rattle.grid_network.specs.declared.key.Key.{Key}
 use Rattle.em_rules.specs.Limit.{IsDensity, IsLimit, IsWireLimit, IsCutLimit}
 use Rattle.grid_limits.specs.Limits.{IsBranchLimit, IsPieceLimit, IsArrayLimit, AreGridLimits}
 use Rattle.signoff_report.specs.declared.records.Limits.{Limits}
-use Rattle.one_network.proofs.Lists.{in_turn_one}
+use Rattle.one_network.specs.Laws.Lists.{in_turn_one}
 
 -- ## limits
 

@@ -1,8 +1,8 @@
 -- The answers of `build`, each with its cause.
-use Rattle.std.proofs.Common.{◌≡◌, ◌≢◌, ◌≤◌, ◌<◌, ◌⊎◌, inl, inr, ℕ, ◌==◌, Bool, true, false, ◌&&◌, if◌then◌else◌, List, [], All, Option, Some, None, IfSome, length, take, get_or, refl, sym, ap, subst, ◌∙◌, arith}
-use Rattle.std.proofs.lemmas.List.{get_or-map, length-map}
+use Rattle.std.proofs.Common.{◌≡◌, ◌≢◌, ◌≤◌, ◌<◌, ◌⊎◌, inl, inr, ℕ, ◌==◌, Bool, true, false, ◌&&◌, if◌then◌else◌, List, [], All, Option, IfSome, length, get_or, refl, sym, ap, subst, ◌∙◌, arith}
+use Rattle.std.proofs.lemmas.List.{length-map}
 use Rattle.outside.specs.Counts.{Rose}
-use Rattle.outside.specs.Files.{Holdings, bytes_in}
+use Rattle.outside.specs.Files.{Holdings}
 use Rattle.outside.specs.Known.{WhereKnown}
 use Rattle.outside.specs.Whole.{longest_text}
 use Rattle.outside.specs.declared.whole.ReadError.{ReadError}
@@ -13,12 +13,13 @@ use Rattle.answers.specs.declared.built.Built.{Built as Numbers}
 use Rattle.answers.specs.Answer.{status_of, built_status}
 use Rattle.building.specs.declared.outputs.Outputs.{Outputs}
 use Rattle.building.specs.Inputs.{FiveTexts}
-use Rattle.building.specs.Refusal.{IsUnbuilt, IsToDesign}
+use Rattle.building.specs.Refusal.{IsToDesign}
+use Rattle.macro_building.specs.Refusal.{IsUnbuilt}
 use Rattle.std.specs.Borrow.{Bor}
-use Rattle.input_files.specs.Inputs.{names_of, name_at, AreTextsOf, EachFits, ReadFails}
+use Rattle.input_files.specs.Inputs.{names_of, AreTextsOf}
 use Rattle.output_files.specs.Outputs.{names, text_at}
 use Rattle.pdn_signoff.specs.declared.build_files.BuildFiles.{BuildFiles}
-use Rattle.pdn_signoff.specs.Check.{FilesThen, NoneFailed, IsTextOf, IsTooLong}
+use Rattle.pdn_signoff.specs.Check.{FilesThen, NoneFailed, IsTooLong}
 use Rattle.pdn_signoff.specs.Solve.{SolverThen, IsKept, WriteFailed}
 use Rattle.pdn_signoff.specs.Outputs.{AreWritten, Stops}
 use Rattle.pdn_signoff.specs.Build.{files_read, files_written, output_texts, IsInput, AreInputs, BuildsFiles, Builds}

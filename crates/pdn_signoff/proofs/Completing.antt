@@ -9,13 +9,13 @@ use Rattle.answers.specs.declared.answer.Answer.TheVariants.{Usage, Want, ReadFa
 use Rattle.answers.specs.Answer.{status_of, built_status}
 use Rattle.building.specs.declared.outputs.Outputs.{Outputs}
 use Rattle.building.specs.Inputs.{FileText, FiveTexts}
-use Rattle.building.specs.Refusal.{IsUnbuilt}
 use Rattle.certificate_file.specs.declared.lists.Lists.{Lists}
 use Rattle.command_words.specs.declared.command.Command.{Command}
 use Rattle.command_words.specs.declared.command.Command.TheVariants.{Build, Check, Solve, Generate, Step, Signoff}
 use Rattle.grid_net.specs.Certificate.{IsCertificate}
 use Rattle.input_files.specs.Inputs.{name_at}
 use Rattle.judging.specs.Texts.{StandFor}
+use Rattle.macro_building.specs.Refusal.{IsUnbuilt}
 use Rattle.output_files.specs.Outputs.{HoldEach}
 use Rattle.short_merge.specs.declared.merged.Merged.{Merged}
 use Rattle.spice_grid.specs.declared.named.Named.{Named}

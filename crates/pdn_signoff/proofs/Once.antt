@@ -1,41 +1,41 @@
 -- Of the answers of `build` other than want of memory one alone has its cause, where it is known what the files hold; verdicts
 -- and sweeps of a grid that is built are left open.
-use Rattle.std.proofs.Common.{◌≡◌, ◌≢◌, ◌≤◌, ◌<◌, ◌⊎◌, inl, inr, ℕ, ℤ, Bool, true, false, List, [], Option, Some, length, take, get_or, refl, sym, ap, subst, ◌∙◌, arith}
-use Rattle.std.specs.Prelude.{bytes_eq}
-use Rattle.std.proofs.lemmas.Bool.{cases_order}
-use Rattle.std.proofs.lemmas.List.{get_or-take, length-take}
-use Rattle.std.proofs.lemmas.Slice.Eq.{bytes_eq-Decides}
-use Rattle.outside.specs.Counts.{FaultCounts, ChangesReads, Rose}
+use Rattle.std.proofs.Common.{◌≡◌, ◌≢◌, ◌≤◌, ◌<◌, ◌⊎◌, inl, inr, ℕ, ℤ, List, Option, Some, length, refl, sym, subst, ◌∙◌}
 use Rattle.outside.specs.Files.{Holdings, bytes_in}
 use Rattle.outside.specs.Whole.{longest_text}
 use Rattle.answers.specs.declared.answer.Answer.{Answer}
 use Rattle.answers.specs.declared.answer.Answer.TheVariants.{Usage, Want, ReadFault, WriteFault, TooLong, Refused, NoGrid, Range, TooManySteps, PadConflict, FloatingCapacitor, Unsupplied, Built, SignedOff, Generated, Solved, Stepped, Certified, NotCertified}
 use Rattle.answers.specs.declared.built.Built.{Built as Numbers}
-use Rattle.bound_check.specs.Certified.{Certificate}
 use Rattle.building.specs.Inputs.{FiveTexts}
-use Rattle.input_files.specs.Inputs.{name_at, EachFits}
-use Rattle.building.specs.Building.{Design, IsDesignOf}
-use Rattle.building.specs.Refusal.{IsUnbuilt}
-use Rattle.one_design.specs.Same.{AreSameButCertificates}
+use Rattle.input_files.specs.Inputs.{name_at}
+use Rattle.macro_building.specs.Built.{BuiltDesign, IsBuiltDesign}
+use Rattle.macro_building.specs.Refusal.{IsUnbuilt}
+use Rattle.one_build.specs.Same.{AreBuiltAlike as AreDesignsAlike}
+use Rattle.solving.specs.Signed.{IsMadeOf}
 use Rattle.pdn_signoff.specs.declared.build_files.BuildFiles.{BuildFiles}
 use Rattle.pdn_signoff.specs.Words.{IsBuild}
-use Rattle.pdn_signoff.specs.Check.{FilesThen, NoneFailed, IsTooLong}
-use Rattle.pdn_signoff.specs.Solve.{SolverThen, WriteFailed}
-use Rattle.pdn_signoff.specs.Build.{files_read, AreInputs, BuildsFiles, RefusesFiles, TellOneGrid, AreBuiltAlike, Builds}
+use Rattle.pdn_signoff.specs.Check.{FilesThen, IsTooLong}
+use Rattle.pdn_signoff.specs.Solve.{SolverThen}
+use Rattle.pdn_signoff.specs.Build.{files_read, AreInputs, RefusesFiles, AreBuiltAlike, Builds}
 use Rattle.pdn_signoff.specs.Inputs.{IsFirstUnread}
 use Rattle.pdn_signoff.specs.Command.{IsCause, CanRise}
 use Rattle.pdn_signoff.proofs.Alike.{of_two}
 use Rattle.pdn_signoff.proofs.Building.{failed_write}
-use Rattle.pdn_signoff.proofs.Causes.{AreLaws, of_held}
+use Rattle.pdn_signoff.proofs.Causes.{AreLaws}
 use Rattle.pdn_signoff.proofs.Completing.{build_cause, same_texts, each_fits}
 use Rattle.pdn_signoff.proofs.Sizes.{AreSizesOf, one_grid, sizes_of}
 use Rattle.pdn_signoff.proofs.Staged.{IsStage, one_of_all}
 
 -- The laws of five texts, as they are handed in.
-pub record AreDesignLaws : Type 0 where
+pub record AreBuildLaws : Type 0 where
   pub refusal : (t : FiveTexts) (a b : Answer) → IsUnbuilt t a → IsUnbuilt t b → a ≢ Want → b ≢ Want → a ≡ b
-  pub apart : (told : Option (List ℤ × List ℤ)) (t : FiveTexts) (design : Design) (a : Answer) → IsDesignOf told t design → IsUnbuilt t a → a ≡ Want
-  pub design : (told told' : Option (List ℤ × List ℤ)) (t : FiveTexts) (one other : Design) → IsDesignOf told t one → IsDesignOf told' t other → AreSameButCertificates one other
+  pub apart : (told : Option (List ℤ × List ℤ)) (t : FiveTexts) (design : BuiltDesign) (a : Answer) → IsBuiltDesign told t design → IsUnbuilt t a → a ≡ Want
+  pub design : (told told' : Option (List ℤ × List ℤ)) (t : FiveTexts) (one other : BuiltDesign) → IsBuiltDesign told t one → IsBuiltDesign told' t other → AreDesignsAlike one other
+
+-- The certificate of what is built is made of its network.
+certified : (told : Option (List ℤ × List ℤ)) (t : FiveTexts) (d : BuiltDesign) → IsBuiltDesign told t d → IsMadeOf told d.design.extracted.net d.design.certificate
+certified told t d (inl plain) = plain.is_design.certified
+certified told t d (inr over) = over.certified
 
 -- Answers that are one are alike.
 pub alike_from : (a b : Answer) → a ≡ b → AreBuiltAlike a b
@@ -59,7 +59,7 @@ alike_from (Solved nodes resistors sweeps) b e = e
 alike_from (Certified nodes) b e = e
 alike_from (NotCertified node side found) b e = e
 
-module _ (laws : AreDesignLaws) (before after : FilesThen) (held : Holdings) (f : BuildFiles) (known : before.known ≡ Some held) (can : CanRise after.counts) where
+module _ (laws : AreBuildLaws) (before after : FilesThen) (held : Holdings) (f : BuildFiles) (known : before.known ≡ Some held) (can : CanRise after.counts) where
   -- The answers that come of the texts: these are refused, or they are built.
   pub record IsRefused (a : Answer) : Type 0 where
     pub some : a ≢ Want
@@ -71,11 +71,11 @@ module _ (laws : AreDesignLaws) (before after : FilesThen) (held : Holdings) (f 
     pub texts : FiveTexts
     pub are : AreInputs (Some held) f texts
     pub solver : Option (List ℤ × List ℤ)
-    pub design : Design
-    pub is : IsDesignOf solver texts design
+    pub design : BuiltDesign
+    pub is : IsBuiltDesign solver texts design
     pub numbers : Numbers
     pub told : a ≡ Built numbers
-    pub sizes : AreSizesOf design.grid design.extracted.net numbers
+    pub sizes : AreSizesOf design.design.grid design.design.extracted.net numbers
 
   abbrev pub IsShort : Answer → Type 0
   IsShort a = IsRefused a ⊎ IsBuilt a
@@ -89,9 +89,9 @@ module _ (laws : AreDesignLaws) (before after : FilesThen) (held : Holdings) (f 
 
   one_built : (a b : Answer) → IsBuilt a → IsBuilt b → AreBuiltAlike a b
   one_built a b x y =
-      let there : IsDesignOf y.solver x.texts y.design = subst (λ t. IsDesignOf y.solver t y.design) (texts_here y.texts x.texts y.are x.are) y.is in
+      let there : IsBuiltDesign y.solver x.texts y.design = subst (λ t. IsBuiltDesign y.solver t y.design) (texts_here y.texts x.texts y.are x.are) y.is in
       let same = laws.design x.solver y.solver x.texts x.design y.design x.is there in
-      subst (λ z. AreBuiltAlike z b) (sym x.told) (y.numbers, y.told, one_grid x.design.grid y.design.grid x.design.extracted y.design.extracted x.numbers y.numbers same.grid same.network x.sizes y.sizes)
+      subst (λ z. AreBuiltAlike z b) (sym x.told) (y.numbers, y.told, one_grid x.design.design.grid y.design.design.grid x.design.design.extracted y.design.design.extracted x.numbers y.numbers same.design.grid same.design.network x.sizes y.sizes)
 
   refused_or_built : (a b : Answer) → IsRefused a → IsBuilt b → ⊥
   refused_or_built a b x y = x.some (laws.apart y.solver y.texts y.design a y.is (subst (λ t. IsUnbuilt t a) (texts_here x.texts y.texts x.are y.are) x.why))
@@ -135,6 +135,8 @@ module _ (laws : AreDesignLaws) (before after : FilesThen) (held : Holdings) (f 
   stage_of solver solver' (Unsupplied node) some why = refused_stage (Unsupplied node) some why
   stage_of solver solver' (Built numbers) some (outputs, builds, same, none, asked, written) =
       let numbers_are = same ∙ builds.are_outputs.numbers in
+      let d = builds.design.design in
+      let net_is = (certified solver.told builds.texts builds.design builds.is_design).net_is in
       inr (inr (
         none,
         inr (inr (record {
@@ -145,7 +147,7 @@ module _ (laws : AreDesignLaws) (before after : FilesThen) (held : Holdings) (f 
           is = builds.is_design;
           numbers = numbers;
           told = refl;
-          sizes = sizes_of builds.design.grid builds.design.certificate.net builds.design.extracted.net numbers _ numbers_are builds.is_design.certified.net_is
+          sizes = sizes_of d.grid d.certificate.net d.extracted.net numbers _ numbers_are net_is
               (record { pieces = refl; stacks = refl; nodes = refl; resistors = refl; pads = refl });
         })),
       ))
@@ -161,13 +163,13 @@ module _ (laws : AreDesignLaws) (before after : FilesThen) (held : Holdings) (f 
   pub one_build : (a b : Answer) → IsBuildStage a → IsBuildStage b → AreBuiltAlike a b
   one_build = one_of_all before after held (files_read f) known can AreBuiltAlike alike_from IsShort one_short no_long
 
-pub built_once : AreLaws → AreDesignLaws → (words : List (List ℕ)) (solver solver' : SolverThen) (before after : FilesThen) (held : Holdings) (f : BuildFiles) (a b : Answer) → before.known ≡ Some held → CanRise after.counts → IsBuild words f
+pub built_once : AreLaws → AreBuildLaws → (words : List (List ℕ)) (solver solver' : SolverThen) (before after : FilesThen) (held : Holdings) (f : BuildFiles) (a b : Answer) → before.known ≡ Some held → CanRise after.counts → IsBuild words f
     → IsCause words solver solver' before after a → IsCause words solver solver' before after b → a ≢ Want → b ≢ Want → AreBuiltAlike a b
-built_once laws design words solver solver' before after held f a b known can is x y some_a some_b =
+built_once laws build words solver solver' before after held f a b known can is x y some_a some_b =
     elim (build_cause laws words solver solver' before after f a is x).why [
       | inl want ↦ absurd (some_a want.0)
       | inr x_why ↦ elim (build_cause laws words solver solver' before after f b is y).why [
         | inl want ↦ absurd (some_b want.0)
-        | inr y_why ↦ one_build design before after held f known can a b (stage_of design before after held f known can solver solver' a some_a x_why) (stage_of design before after held f known can solver solver' b some_b y_why)
+        | inr y_why ↦ one_build build before after held f known can a b (stage_of build before after held f known can solver solver' a some_a x_why) (stage_of build before after held f known can solver solver' b some_b y_why)
       ]
     ]

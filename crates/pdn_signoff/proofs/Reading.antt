@@ -1,5 +1,5 @@
 -- Several files that are read one after the other: the first that was not read, and the texts of those that were.
-use Rattle.std.proofs.Common.{◌≡◌, ◌≤◌, ◌<◌, ℕ, List, [], All, Option, Some, None, IfSome, length, map, take, get_or, sym, ap, subst, ◌∙◌}
+use Rattle.std.proofs.Common.{◌≡◌, ◌<◌, ℕ, List, [], Option, Some, None, IfSome, length, map, take, get_or, sym, ap, subst, ◌∙◌}
 use Rattle.std.proofs.lemmas.List.{get_or-map, length-map}
 use Rattle.std.specs.Borrow.{Bor}
 use Rattle.outside.specs.Files.{Holdings, bytes_in}

@@ -1,5 +1,5 @@
 -- A command that reads files, makes outputs of their texts and writes these: what follows from the cause of its answer.
-use Rattle.std.proofs.Common.{◌≡◌, ◌≢◌, ◌≤◌, ◌<◌, ◌⊎◌, inl, inr, ℕ, List, Option, Some, length, refl, sym, ap, subst, ◌∙◌, arith}
+use Rattle.std.proofs.Common.{◌≡◌, ◌≢◌, ◌≤◌, ◌<◌, ◌⊎◌, inl, inr, ℕ, List, Some, length, refl, sym, ap, subst, ◌∙◌, arith}
 use Rattle.outside.specs.Counts.{Rose}
 use Rattle.outside.specs.Files.{Holdings, bytes_in}
 use Rattle.outside.specs.Known.{WhereKnown}
@@ -7,7 +7,7 @@ use Rattle.outside.specs.Whole.{longest_text}
 use Rattle.outside.specs.declared.whole.ReadError.{ReadError}
 use Rattle.outside.specs.declared.whole.ReadError.TheVariants as reading
 use Rattle.answers.specs.declared.answer.Answer.{Answer}
-use Rattle.answers.specs.declared.answer.Answer.TheVariants.{Want, WriteFault}
+use Rattle.answers.specs.declared.answer.Answer.TheVariants.{Want}
 use Rattle.answers.specs.Answer.{status_of}
 use Rattle.input_files.specs.Inputs.{name_at}
 use Rattle.output_files.specs.Outputs.{Texts, names}

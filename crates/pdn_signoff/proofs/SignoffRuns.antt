@@ -1,5 +1,5 @@
 -- What follows from the cause of an answer of `signoff` and the way in which the run ends with it.
-use Rattle.std.proofs.Common.{◌≡◌, ◌≢◌, ◌≤◌, ◌<◌, ◌⊎◌, inl, inr, ℕ, zero, suc, ℤ, List, [], ◌∷◌, Option, Some, None, length, unwrap_or, refl, sym, ap, subst, ◌∙◌, arith}
+use Rattle.std.proofs.Common.{◌≡◌, ◌≢◌, ◌≤◌, ◌<◌, ◌⊎◌, inl, inr, ℕ, zero, suc, ℤ, List, [], Option, Some, None, length, unwrap_or, refl, sym, ap, subst, ◌∙◌, arith}
 use Rattle.outside.specs.Counts.{Rose}
 use Rattle.outside.specs.Files.{Holdings, bytes_in}
 use Rattle.outside.specs.Known.{WhereKnown}
@@ -13,9 +13,6 @@ use Rattle.certificate_file.specs.declared.lists.Lists.{Lists}
 use Rattle.command_words.specs.declared.command.Command.{Command}
 use Rattle.command_words.specs.declared.command.Command.TheVariants.{Build, Check, Solve, Generate, Step, Signoff}
 use Rattle.grid_net.specs.Certificate.{IsCertificate}
-use Rattle.grid_net.specs.Network.{Network}
-use Rattle.grid_network.specs.declared.extracted.Extracted.{Extracted}
-use Rattle.grid_pieces.specs.declared.grid.Grid.{Grid}
 use Rattle.grid_signing.specs.declared.signed.SignedGrid.{SignedGrid}
 use Rattle.input_files.specs.Inputs.{name_at}
 use Rattle.judging.specs.Texts.{StandFor}
@@ -28,7 +25,7 @@ use Rattle.signing_off.specs.Signing.{WiredDesign, IsWiredDesign}
 use Rattle.spice_grid.specs.declared.named.Named.{Named}
 use Rattle.pdn_signoff.specs.declared.signoff_files.SignoffFiles.{SignoffFiles}
 use Rattle.pdn_signoff.specs.Words.{IsSignoff}
-use Rattle.pdn_signoff.specs.Build.{IsInput, TellOneGrid}
+use Rattle.pdn_signoff.specs.Build.{IsInput}
 use Rattle.pdn_signoff.specs.Check.{FilesThen, IsTooLong}
 use Rattle.pdn_signoff.specs.Inputs.{IsFirstUnread}
 use Rattle.pdn_signoff.specs.Solve.{SolverThen, IsKept}

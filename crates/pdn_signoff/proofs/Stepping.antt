@@ -1,5 +1,5 @@
 -- What follows from the cause of an answer of `step` and the way in which the run ends with it.
-use Rattle.std.proofs.Common.{◌≡◌, ◌≢◌, ◌≤◌, ◌<◌, ◌⊎◌, inl, inr, ℕ, zero, suc, List, [], ◌∷◌, Option, Some, None, length, refl, sym, ap, subst, ◌∙◌, arith}
+use Rattle.std.proofs.Common.{◌≡◌, ◌≢◌, ◌≤◌, ◌<◌, ◌⊎◌, inl, inr, ℕ, zero, suc, List, Option, Some, None, length, sym, ap, subst, ◌∙◌, arith}
 use Rattle.outside.specs.Counts.{Rose}
 use Rattle.outside.specs.Files.{Holdings, bytes_in}
 use Rattle.outside.specs.Known.{WhereKnown}
@@ -10,7 +10,7 @@ use Rattle.answers.specs.Answer.{status_of}
 use Rattle.command_words.specs.declared.command.Command.{Command}
 use Rattle.command_words.specs.declared.command.Command.TheVariants.{Build, Check, Solve, Generate, Step, Signoff}
 use Rattle.input_files.specs.Inputs.{name_at}
-use Rattle.output_files.specs.Outputs.{Texts, names, HoldEach}
+use Rattle.output_files.specs.Outputs.{Texts, HoldEach}
 use Rattle.short_merge.specs.declared.merged.Merged.{Merged}
 use Rattle.spice_grid.specs.declared.named.Named.{Named}
 use Rattle.stepping.specs.declared.stepped.Stepped.{Stepped as Output}
@@ -19,13 +19,12 @@ use Rattle.stepping.specs.Refusal.{NamesLimit, PassesLimit, IsUnstepped}
 use Rattle.wave_file.specs.declared.record.Waves.{Waves}
 use Rattle.pdn_signoff.specs.declared.step_files.StepFiles.{StepFiles}
 use Rattle.pdn_signoff.specs.Words.{IsStep}
-use Rattle.pdn_signoff.specs.Check.{FilesThen, IsTextOf, IsTooLong}
+use Rattle.pdn_signoff.specs.Check.{FilesThen, IsTooLong}
 use Rattle.pdn_signoff.specs.Inputs.{IsFirstUnread}
 use Rattle.pdn_signoff.specs.Solve.{SolverThen, IsKept}
-use Rattle.pdn_signoff.specs.Outputs.{AreWritten}
 use Rattle.pdn_signoff.specs.Step.{step_files_read, step_files_written, step_texts, AreStepInputs, StepsFiles, RefusesStepFiles, MakesSteps, StepsBy, LeavesStepped, AreStepsAccepted, TellsOfLists, AreSteppedAlike}
 use Rattle.pdn_signoff.specs.Command.{SinkThen, IsCause, CanRise, ChangesAmong}
-use Rattle.pdn_signoff.proofs.Causes.{Ran, AreLaws, of_held, unhindered, status_zero}
+use Rattle.pdn_signoff.proofs.Causes.{Ran, AreLaws, unhindered, status_zero}
 use Rattle.pdn_signoff.proofs.Running.{whole}
 use Rattle.pdn_signoff.proofs.StepAnswers.{HaveSort, IsSteppedWhole, alone_stepped, zero_stepped}
 use Rattle.pdn_signoff.proofs.Staged.{IsStage, one_of_all}

@@ -8,11 +8,11 @@ use Rattle.answers.specs.declared.answer.Answer.{Answer}
 use Rattle.answers.specs.declared.built.Built.{Built as Numbers}
 use Rattle.answers.specs.declared.answer.Answer.TheVariants.{Usage, Want, ReadFault, WriteFault, TooLong, Refused, NoGrid, Range, TooManySteps, PadConflict, FloatingCapacitor, Unsupplied, Built, SignedOff, Generated, Solved, Stepped, Certified, NotCertified}
 use Rattle.building.specs.declared.outputs.Outputs.{Outputs}
-use Rattle.building.specs.Building.{Design, IsDesignOf, AreOutputsOf}
 use Rattle.building.specs.Checked.{PassesCheck}
 use Rattle.building.specs.Inputs.{FileText, FiveTexts}
-use Rattle.building.specs.Refusal.{IsUnbuilt}
 use Rattle.grid_signing.specs.Solutions.{SolutionsKeep}
+use Rattle.macro_building.specs.Built.{BuiltDesign, IsBuiltDesign, AreBuiltOutputs}
+use Rattle.macro_building.specs.Refusal.{IsUnbuilt}
 use Rattle.output_files.specs.Outputs.{Texts, HoldEach}
 use Rattle.pdn_signoff.specs.declared.build_files.BuildFiles.{BuildFiles}
 use Rattle.pdn_signoff.specs.Check.{FilesThen, NoneFailed, IsTextOf, IsTooLong}
@@ -47,18 +47,19 @@ pub record AreInputs (known : Option Holdings) (f : BuildFiles) (t : FiveTexts) 
   pub pdn : IsInput known f.pdn t.pdn
   pub bias : IsInput known f.bias t.bias
 
--- The texts of the files are built into these outputs: the texts of the grid that the script draws over the design, of its
--- network, of a tight certificate and of the report; every solution of the network keeps what the report says; and who
--- checks the certificate finds that it holds.
+-- The texts of the files are built into these outputs: the texts of the grid that the script draws over the design and its
+-- blocks, of its network, of a tight certificate and of the report; every solution of the network keeps what the report
+-- says; and who checks the certificate finds that it holds. The pins of blocks that a grid over macros meets count as straps
+-- of the grid, and so in the network, the certificate, the report and the numbers; the written design is without them.
 pub record BuildsFiles (told : Option (List ℤ × List ℤ)) (known : Option Holdings) (f : BuildFiles) (outputs : Outputs)
     : Type 0 where
   pub texts : FiveTexts
   pub are_inputs : AreInputs known f texts
-  pub design : Design
-  pub is_design : IsDesignOf told texts design
-  pub are_outputs : AreOutputsOf design outputs
-  pub keep : SolutionsKeep design.extracted.net design.certificate design.limits
-  pub checked : PassesCheck design outputs
+  pub design : BuiltDesign
+  pub is_design : IsBuiltDesign told texts design
+  pub are_outputs : AreBuiltOutputs design outputs
+  pub keep : SolutionsKeep design.design.extracted.net design.design.certificate design.design.limits
+  pub checked : PassesCheck design.design outputs
 
 -- The files were read without a fault, and nothing is built of their texts; no file was written.
 abbrev pub RefusesFiles : FilesThen → FilesThen → BuildFiles → Answer → Type 0
@@ -111,8 +112,9 @@ pub record LeavesBuilt (told : Option (List ℤ × List ℤ)) (f : BuildFiles) (
   pub files : HoldEach (output_texts f outputs) old new
   pub status_is : status ≡ built_status outputs.numbers
 
--- The texts that the five files hold are these, and nothing refuses them: each has its record, the script draws a grid over
--- the design, the grid has a network, and each node is supplied.
+-- The texts that the five files hold are these, and nothing refuses them: each has its record, the pins of blocks are read
+-- where a grid over macros meets a block, the script draws a grid over the design and its blocks, the grid has a network, and
+-- each node is supplied.
 pub record AreAccepted (held : Holdings) (f : BuildFiles) (t : FiveTexts) : Type 0 where
   pub texts : AreInputs (Some held) f t
   pub accepted : (answer : Answer) → IsUnbuilt t answer → answer ≡ Want

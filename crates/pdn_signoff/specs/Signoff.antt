@@ -1,14 +1,15 @@
 -- What `signoff` answers, and what has to be so where it gives each answer.
-use Rattle.std.specs.Prelude.{◌≡◌, ℕ, ℤ, List, [], ◌∷◌, Option, Some}
+use Rattle.std.specs.Prelude.{◌≡◌, ℕ, ℤ, false, List, [], ◌∷◌, Option, Some}
 use Rattle.outside.specs.Files.{Holdings}
 use Rattle.answers.specs.Answer.{built_status}
 use Rattle.answers.specs.declared.answer.Answer.{Answer}
 use Rattle.answers.specs.declared.built.Built.{Built as Numbers}
 use Rattle.answers.specs.declared.answer.Answer.TheVariants.{Want, SignedOff}
 use Rattle.building.specs.declared.outputs.Outputs.{Outputs}
-use Rattle.building.specs.Building.{Design, IsDesignOf, AreOutputsOf}
 use Rattle.building.specs.Inputs.{FiveTexts}
 use Rattle.grid_signing.specs.declared.signed.SignedGrid.{SignedGrid}
+use Rattle.macro_building.specs.Blocks.{is_over_blocks}
+use Rattle.macro_building.specs.Built.{BuiltDesign, IsBuiltDesign, AreBuiltOutputs}
 use Rattle.output_files.specs.Outputs.{Texts, HoldEach}
 use Rattle.rewired_networks.specs.Over.{HasOneDomain}
 use Rattle.signing_off.specs.Inputs.{WiredTexts}
@@ -75,13 +76,15 @@ pub record LeavesSignedOff (told : Option (List ℤ × List ℤ)) (f : SignoffFi
   pub files : HoldEach (signed_texts f signed) old new
   pub status_is : status ≡ built_status signed.numbers
 
--- The outputs of a build of these texts, whatever its solver told, over one domain without a region.
+-- The outputs of a build of these texts, whatever its solver told, in which no grid over macros meets a block, over one
+-- domain without a region.
 pub record IsBuildOf (t : FiveTexts) (outputs : Outputs) : Type 0 where
   pub told : Option (List ℤ × List ℤ)
-  pub design : Design
-  pub is_design : IsDesignOf told t design
-  pub over : HasOneDomain design.grid
-  pub are_outputs : AreOutputsOf design outputs
+  pub design : BuiltDesign
+  pub is_design : IsBuiltDesign told t design
+  pub none : is_over_blocks design.design.records ≡ false
+  pub over : HasOneDomain design.design.grid
+  pub are_outputs : AreBuiltOutputs design outputs
 
 -- The five files hold the technology, the cells, the placed design and the bias file of a build, and as wiring the DEF that it
 -- wrote.
@@ -92,8 +95,8 @@ pub record HoldBuild (held : Holdings) (f : SignoffFiles) (t : FiveTexts) (outpu
   pub wires : IsTextOf (Some held) f.wires outputs.def
   pub bias : IsTextOf (Some held) f.bias t.bias.text
 
--- Where the five files hold what a build over one domain read and the DEF that it wrote, the netlist is that of the build,
--- byte for byte.
+-- Where the five files hold what a build over one domain, in which no grid over macros meets a block, read and the DEF that it
+-- wrote, the netlist is that of the build, byte for byte.
 abbrev pub LeavesNetlistOfBuild : SignoffFiles → Holdings → Holdings → Type 0
 LeavesNetlistOfBuild f old new = (t : FiveTexts) (outputs : Outputs) → IsBuildOf t outputs → HoldBuild old f t outputs
     → IsTextOf (Some new) f.netlist outputs.netlist

@@ -12,10 +12,11 @@ use crate::faults::unread;
 use crate::inputs::input;
 use crate::outputs::write_outputs;
 use answers::Answer;
-use building::{Inputs, Outputs, answers_to_designs, build as build_texts};
+use building::{Inputs, Outputs};
 use entry_list::Entries;
 use grid_net::Solver;
 use input_files::read_each;
+use macro_building::{answers_to_builds, build as build_texts};
 use output_files::Output;
 use outside::{Files, LONGEST_TEXT};
 use std::alloc::Global;
@@ -35,7 +36,7 @@ pub fn build<F: Files, V: Solver>(
         (record { known = F.known files.new; counts = F.counts files.new }) names.now result }
     ensures told { V.told solver.new ≡ V.told solver.old }
 {
-    answers_to_designs();
+    answers_to_builds();
     let read = names_read(names);
     let texts = match read_each(alloc, files, &read, LONGEST_TEXT) {
         Ok(texts) => texts,

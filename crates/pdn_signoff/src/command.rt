@@ -45,7 +45,8 @@ use command_words::{Command, WordsError, read, words_have_one_command};
 use grid_net::Solver;
 use judging::{answers_to_texts, texts_are_judged_once};
 use number_place::values_fit_their_places;
-use one_design::{texts_have_one_design, texts_have_one_wired_design};
+use one_build::texts_have_one_build;
+use one_design::texts_have_one_wired_design;
 use outside::{Argv, Files, Sink, WriteError, send};
 use signed_builds::built_wiring_is_signed_off_alike;
 use signing_off::answers_to_wiring;
@@ -66,8 +67,8 @@ const WANT: u8 = 10;
 /// shorts are merged, the certificate's text, the test. That of `solve` is: the words, the netlist is read, its text, its
 /// shorts are merged, the supply is tested, the network is certified, the certificate is written, the report is written.
 /// That of `generate` is: the words, the texts are made, the five files are written in the order technology, cells, design,
-/// script, bias file. That of `build` is: the words, the five files are read, their texts, the grid is drawn, its network is
-/// extracted, the supply is tested, the network is certified, the four files are written in the order DEF, netlist,
+/// script, bias file. That of `build` is: the words, the five files are read, their texts, the pins and obstructions of macros
+/// where a grid over macros meets a block, the grid is drawn, its network is extracted, the supply is tested, the network is certified, the four files are written in the order DEF, netlist,
 /// certificate, report. That of `step` is: the words, the netlist and the waves are read, the netlist's text, its shorts are merged, the text of
 /// the waves, capacitors that float, the number of steps, the supply, the steps are certified one after the other, the
 /// certificate is written, the report is written. That of `signoff` is: the words, the five files are read, their texts, the
@@ -190,9 +191,10 @@ pub fn run<F: Files, O: Sink, V: Solver>(
         → ¬ Rose (F.counts files.old).faults (F.counts files.new).faults → ¬ Rose (O.faults out.old) (O.faults out.new)
         → (result ≡ 0) ⊎ (result ≡ 10) }
 
-    // After the status 0 or 1 of `build` its four outputs hold the texts of the grid that the script draws over the design,
-    // of the network of that grid, with one resistor for each piece of wire between neighbouring junctions and for each
-    // array of cuts and no other, of a tight certificate of the network, and of the report. For every solution of Ohm's
+    // After the status 0 or 1 of `build` its four outputs hold the texts of the grid that the script draws over the design
+    // and its blocks, of the network of that grid, with one resistor for each piece of wire between neighbouring junctions
+    // and for each array of cuts and no other, of a tight certificate of the network, and of the report. The pins of blocks
+    // that a grid over macros meets count as straps; the written design is without them. For every solution of Ohm's
     // and Kirchhoff's laws on the network, for every load within its range and over any common denominator, each node's
     // voltage and each branch's current lie within the intervals that the report holds for it, and each branch that is
     // printed SAFE keeps its limit. The status is 1 where some verdict is UNSAFE or OPEN. All of it speaks of what the
@@ -245,8 +247,9 @@ pub fn run<F: Files, O: Sink, V: Solver>(
     ensures signoff_accepted { (names : SignoffNames) → IsSignoff words.now names → (result ≡ 0) ⊎ (result ≡ 1)
         → WhereKnown (LeavesSignoffAccepted names) (F.known files.old) (F.known files.new) }
 
-    // Where the wiring is the DEF that a `build` over one domain without a region wrote, and the other texts are those that
-    // it read, the netlist is that of the `build`, byte for byte, where it is known what the files hold.
+    // Where the wiring is the DEF that a `build` over one domain without a region wrote in which no grid over macros meets a
+    // block, and the other texts are those that it read, the netlist is that of the `build`, byte for byte, where it is known
+    // what the files hold.
     ensures signoff_of_build { (names : SignoffNames) → IsSignoff words.now names → (result ≡ 0) ⊎ (result ≡ 1)
         → WhereKnown (LeavesNetlistOfBuild names) (F.known files.old) (F.known files.new) }
 
@@ -494,7 +497,7 @@ pub fn one_answer_has_its_cause()
     texts_are_judged_once();
     netlists_are_solved_once();
     netlists_are_stepped_alike();
-    texts_have_one_design();
+    texts_have_one_build();
     texts_have_one_wired_design();
     words_have_one_command();
 }

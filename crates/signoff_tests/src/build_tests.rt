@@ -23,17 +23,19 @@ const BUILT: &[u8] =
 
 /// The texts of a run, with the call on a named file and the call on the sink that fail.
 #[derive(Clone, Copy)]
-struct Run<'a> {
-    def: &'a [u8],
-    script: &'a [u8],
-    bias: &'a [u8],
-    failing: (&'a str, u64),
-    failing_write: u64,
+pub(crate) struct Run<'a> {
+    pub(crate) cells: &'a [u8],
+    pub(crate) def: &'a [u8],
+    pub(crate) script: &'a [u8],
+    pub(crate) bias: &'a [u8],
+    pub(crate) failing: (&'a str, u64),
+    pub(crate) failing_write: u64,
 }
 
 /// The small design, where no call fails.
-fn small() -> Run<'static> {
+pub(crate) fn small() -> Run<'static> {
     Run {
+        cells: CELLS,
         def: DESIGN,
         script: SCRIPT,
         bias: BIAS,
@@ -48,7 +50,10 @@ fn held(alloc: Global, run: &Run<'_>) -> Result<Vec<(Name, Vec<u8>)>, AllocError
             Name::new(alloc, b"lef")?,
             Vec::from_slice(alloc, TECHNOLOGY)?
         ),
-        (Name::new(alloc, b"cells")?, Vec::from_slice(alloc, CELLS)?),
+        (
+            Name::new(alloc, b"cells")?,
+            Vec::from_slice(alloc, run.cells)?
+        ),
         (Name::new(alloc, b"def")?, Vec::from_slice(alloc, run.def)?),
         (
             Name::new(alloc, b"pdn")?,
@@ -86,7 +91,7 @@ fn solved<V: Solver>(
 }
 
 /// The same with a solver that proposes nothing.
-fn ends(
+pub(crate) fn ends(
     rt: &(impl Abort + AllocGlobal),
     inputs: &Run<'_>,
     status: u8,
@@ -98,7 +103,7 @@ fn ends(
 }
 
 /// A run that ends before anything is written.
-fn refused(
+pub(crate) fn refused(
     rt: &(impl Abort + AllocGlobal),
     inputs: &Run<'_>,
     status: u8,

@@ -14,6 +14,8 @@ mod check_tests;
 #[cfg(test)]
 mod generate_tests;
 #[cfg(test)]
+mod macro_tests;
+#[cfg(test)]
 mod runs;
 #[cfg(test)]
 mod signed_tests;

@@ -9,6 +9,8 @@ use Rattle.name_table.specs.ByteOrder.{IsBefore, IsInByteOrder}
 use Rattle.name_table.specs.Numbering.{AreDistinct}
 use Rattle.lef_tech.specs.declared.tech.Tech.{Tech}
 use Rattle.lef_tech.specs.Limits.{TechKeeps}
+use Rattle.def_design.specs.declared.record.Design.{Design}
+use Rattle.def_design.specs.Limits.{DesignKeeps}
 use Rattle.via_arrays.specs.Lengths.{IsUnits}
 use Rattle.grid_pieces.specs.declared.grid.Grid.{Grid}
 use Rattle.grid_pieces.specs.declared.piece.Block.{Block}
@@ -83,6 +85,13 @@ stacks_in_order tech P units pieces stacks are i j d below within =
     at k inside = are.3.each k no_site d (in_sites k inside)
 
 -- ## the grid
+
+-- Units that a design has are in their range.
+pub units_stand : (design : Design) (units : ℕ) → DesignKeeps design → units ≡ design.units → IsUnits units
+units_stand design units keeps same =
+    let some = keeps.some_units in
+    let most = keeps.units in
+    (omega arith, omega arith)
 
 -- A network can be extracted of a grid whose pieces and stacks stand, where there are few of them.
 pub grid_keeps : (tech : Tech) (grid : Grid) → IsUnits grid.units → AreDistinct grid.nets → All (PieceStands tech grid) grid.pieces

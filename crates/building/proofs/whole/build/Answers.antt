@@ -1,8 +1,8 @@
 use Rattle.std.proofs.Common.{inl}
 use Rattle.std.proofs.lemmas.Result.{IfOk-weaker, MatchResult-weaker}
 use Rattle.building.specs.Inputs.{five_texts}
-use Rattle.building.proofs.Building.{built}
-use Rattle.building.proofs.Refusing.{unbuilt}
+use Rattle.building.specs.Laws.Building.{built}
+use Rattle.building.specs.Laws.Refusing.{unbuilt}
 use Rattle.building.proofs.whole.build.Goals as goal
 
 pub returns-in-Ok-clause-built : goal.returns-in-Ok-clause-built

@@ -1,6 +1,6 @@
 use Rattle.grid_extract.specs.Extraction.{drawing_of}
-use Rattle.grid_extract.proofs.Agreeing.{never_conflict}
-use Rattle.grid_extract.proofs.OnPieces.{is_drawing}
+use Rattle.grid_extract.specs.Laws.Agreeing.{never_conflict}
+use Rattle.grid_extract.specs.Laws.OnPieces.{is_drawing}
 use Rattle.grid_extract.proofs.laws.no_bad_end_nor_conflict.Goals as goal
 
 pub returns-clause-no_bad_end : goal.returns-clause-no_bad_end

@@ -1,7 +1,7 @@
 use Rattle.std.proofs.Common.{◌≡◌, ℕ, List, ap, refl, subst, ◌∙◌}
 use Rattle.building.specs.Inputs.{FiveTexts, five_texts}
-use Rattle.building.specs.Building.{IsDesignOf}
-use Rattle.building.specs.Refusal.{IsUnbuilt}
+use Rattle.macro_building.specs.Built.{IsBuiltDesign}
+use Rattle.macro_building.specs.Refusal.{IsUnbuilt}
 use Rattle.pdn_signoff.specs.Check.{FilesThen, IsTooLong}
 use Rattle.pdn_signoff.specs.Solve.{SolverThen}
 use Rattle.pdn_signoff.specs.inside.Build.{AreRead, five_of, WritesBuilt}
@@ -42,7 +42,7 @@ returns-in-Ok-build_texts-clause-builds g c =
       texts = five_of f texts;
       are_inputs = inputs_known before.known f texts read;
       design = design;
-      is_design = subst (λ (t : FiveTexts). IsDesignOf solver.told t design) same is_design;
+      is_design = subst (λ (t : FiveTexts). IsBuiltDesign solver.told t design) same is_design;
       are_outputs = are_outputs;
       keep = keep;
       checked = checked;
@@ -63,4 +63,4 @@ returns-clause-builds g c =
     let read : AreRead before.known f texts = are_read before.known f c.names_read-read.result texts c.names_read-read.ensures c.in-Ok.ensures.count c.in-Ok.ensures.texts c.in-Ok.ensures.fit in
     let same : five_texts c.inputs_of.result ≡ five_of f texts = c.inputs_of.ensures ∙ ap (five_of f) c.deref.ensures.value in
     let why : IsUnbuilt (five_of f texts) answer = subst (λ (t : FiveTexts). IsUnbuilt t answer) same c.in-Err-build_texts.ensures.refused in
-    texts_refused solver solver' before after f c.in-Ok.ensures.kept c.in-Ok.ensures.calm (five_of f texts) (inputs_known before.known f texts read) answer (c.answers_to_designs.ensures (five_of f texts) answer why) why
+    texts_refused solver solver' before after f c.in-Ok.ensures.kept c.in-Ok.ensures.calm (five_of f texts) (inputs_known before.known f texts read) answer (c.answers_to_builds.ensures (five_of f texts) answer why) why

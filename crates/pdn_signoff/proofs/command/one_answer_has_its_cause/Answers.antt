@@ -1,7 +1,7 @@
 use Rattle.pdn_signoff.proofs.Alike.{alike}
 use Rattle.pdn_signoff.proofs.Causes.{AreLaws}
 use Rattle.pdn_signoff.proofs.Exclude.{one_answer}
-use Rattle.pdn_signoff.proofs.Once.{AreDesignLaws, built_once}
+use Rattle.pdn_signoff.proofs.Once.{AreBuildLaws, built_once}
 use Rattle.pdn_signoff.proofs.Signing.{AreSolvingLaws}
 use Rattle.pdn_signoff.proofs.SignoffRuns.{AreWiredLaws, signed_alike}
 use Rattle.pdn_signoff.proofs.Stepping.{AreSteppingLaws, stepped_alike}
@@ -36,8 +36,8 @@ returns-clause-built c =
       bounded = c.texts_are_judged_once.ensures.bounded;
       one_command = c.words_have_one_command.ensures;
     } in
-    let design : AreDesignLaws = record { refusal = c.texts_have_one_design.ensures.refusal; apart = c.texts_have_one_design.ensures.apart; design = c.texts_have_one_design.ensures.design } in
-    built_once laws design
+    let build : AreBuildLaws = record { refusal = c.texts_have_one_build.ensures.refusal; apart = c.texts_have_one_build.ensures.apart; design = c.texts_have_one_build.ensures.design } in
+    built_once laws build
 
 pub returns-clause-stepped : goal.returns-clause-stepped
 returns-clause-stepped c =

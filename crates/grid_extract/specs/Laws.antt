@@ -1,0 +1,4 @@
+-- Lemmas that crates above use.
+pub mod Agreeing
+pub mod Answers
+pub mod OnPieces

@@ -1,0 +1,3 @@
+-- Lemmas that crates above use.
+pub mod Ordered
+pub mod Unique

@@ -1,0 +1,4 @@
+mod Building
+mod Naming
+mod Refusing
+mod Sorts

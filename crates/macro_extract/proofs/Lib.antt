@@ -1,0 +1,2 @@
+pub mod OnPins
+pub mod Keeps

@@ -1,4 +1,6 @@
+pub mod Answered
 pub mod Answering
+pub mod Few
 pub mod Floors
 pub mod Keeping
 pub mod Integers

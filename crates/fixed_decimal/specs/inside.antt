@@ -1,3 +1,4 @@
 pub mod Kept
 pub mod Split
 pub mod Rounded
+pub mod Short

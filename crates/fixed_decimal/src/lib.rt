@@ -11,6 +11,7 @@ mod printer;
 mod reader;
 mod round;
 mod scale;
+mod short;
 mod sign;
 mod split;
 
@@ -22,4 +23,5 @@ pub use laws::{
 };
 pub use printer::{print, print_down, print_up};
 pub use reader::{read, read_spice};
+pub use short::is_short;
 pub use sign::is_negative;

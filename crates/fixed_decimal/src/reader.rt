@@ -1,4 +1,4 @@
-ghost use Rattle.std.specs.Prelude.{◌≡◌, ◌≤◌, ◌^◌, ◌↔◌, ℤ, Result};
+ghost use Rattle.std.specs.Prelude.{◌≡◌, ◌<◌, ◌≤◌, ◌^◌, ◌↔◌, ℤ, Result};
 ghost use Rattle.fixed_decimal.specs.declared.error.DecimalError.{DecimalError as Error};
 ghost use Rattle.fixed_decimal.specs.Number.{Number, IsDecimal};
 ghost use Rattle.fixed_decimal.specs.Spice.{IsSpice};
@@ -7,6 +7,7 @@ ghost use Rattle.fixed_decimal.specs.Value.{Vanishes, IsAbove, StandsFor, Decima
 use crate::error::DecimalError;
 use crate::round::rounded;
 use crate::scale::{Scale, scale_of};
+use crate::short::short_value;
 use crate::split::split;
 
 /// Reads a number without a scale: an optional sign, digits with at most one point and at least one digit, and
@@ -27,6 +28,28 @@ pub fn read(text: &[u8], places: u32, limit: u128) -> Result<i128, DecimalError>
         (λ number. IsAbove number places limit) }
     ensures answer { IsAnswer IsDecimal places limit text.now result }
     ensures only { (other : Result ℤ Error) → IsAnswer IsDecimal places limit text.now other → other ≡ result }
+{
+    match short_value(text, places, small_limit(limit)) {
+        Some(value) => Ok(i128::from(value)),
+        None => read_in_full(text, places, limit),
+    }
+}
+
+/// The limit, or the greatest that 63 bits have.
+fn small_limit(limit: u128) -> u64
+    ensures within { result ≤ limit }
+    ensures small { result < 2 ^ 63 }
+{
+    limit.min(i64::MAX as u128) as u64
+}
+
+/// The same as `read`, of any text.
+// Most numbers have few digits, and are not brought here.
+#[inline(never)]
+fn read_in_full(text: &[u8], places: u32, limit: u128) -> Result<i128, DecimalError>
+    requires places { places ≤ 30 }
+    requires limit { limit ≤ 10 ^ 37 }
+    ensures { IsAnswer IsDecimal places limit text.now result }
 {
     let Some((number, rest)) = split(text) else {
         return Err(DecimalError::NotNumber);

@@ -8,7 +8,7 @@ use crate::decimal::Decimal;
 use crate::digits::{Digits, take_digits, take_exponent_digits};
 
 /// Whether a minus stands first, and the text after its sign, if it has one.
-fn take_sign(text: &[u8]) -> (bool, &[u8])
+pub fn take_sign(text: &[u8]) -> (bool, &[u8])
     ensures { TakesSign text.now result.0 result.1.now }
 {
     match text {
@@ -31,7 +31,7 @@ fn after_letter(text: &[u8]) -> Option<&[u8]>
 }
 
 /// The text after a point, if it begins with one.
-fn after_point(text: &[u8]) -> Option<&[u8]>
+pub fn after_point(text: &[u8]) -> Option<&[u8]>
     ensures some { IfSome result (λ rest. text.now ≡ codes "." ++ rest.now) }
     ensures none { IfNone result (begins_point text.now ≡ false) }
 {

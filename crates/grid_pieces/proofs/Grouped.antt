@@ -8,11 +8,9 @@ use Rattle.std.proofs.lemmas.Cmp.{nat_cmp_total, int_cmp_total, on_total, then_t
 use Rattle.std.proofs.lemmas.List.Elements.{Contains-get_or}
 use Rattle.geom_rect.specs.declared.drawn.Drawn.{Drawn}
 use Rattle.grid_pieces.specs.declared.line.Line.{Line}
-use Rattle.grid_pieces.specs.declared.piece.Piece.{Piece}
 use Rattle.grid_pieces.specs.Line.{drawn_line}
 use Rattle.grid_pieces.specs.Limits.{OneAxis}
 use Rattle.grid_pieces.specs.inside.Cutting.{drawn_order}
-use Rattle.grid_pieces.specs.Piece.{piece_order}
 use Rattle.grid_pieces.specs.inside.Cutting.{IsGrouped}
 use Rattle.grid_pieces.specs.inside.Sweep.{metal_order}
 use Rattle.grid_pieces.specs.declared.metal.Metal.{Metal}
@@ -22,13 +20,6 @@ pub drawn_total : IsTotalOrder drawn_order
 drawn_total =
     then_total (then_total (then_total (on_total (λ (a : Drawn). a.net) nat_cmp_total) (on_total (λ (a : Drawn). a.layer) nat_cmp_total)) (on_total (λ (a : Drawn). a.centre) int_cmp_total))
     (on_total (λ (a : Drawn). a.width) int_cmp_total)
-
-pub piece_total : IsTotalOrder piece_order
-piece_total =
-    then_total
-    (then_total (then_total (then_total (on_total (λ (a : Piece). a.net) nat_cmp_total) (on_total (λ (a : Piece). a.layer) nat_cmp_total)) (on_total (λ (a : Piece). a.centre) int_cmp_total))
-    (on_total (λ (a : Piece). a.from) int_cmp_total))
-    (on_total (λ (a : Piece). a.width) int_cmp_total)
 
 -- shapes that are alike lie on one line
 drawn_alike : (a b : Drawn) → drawn_order a b ≡ Equal → (a.layer ≡ b.layer → a.axis ≡ b.axis) → drawn_line a ≡ drawn_line b

@@ -74,8 +74,17 @@ fn whole_file_written(rt: HostRuntime) -> Result<(), Fail> {
 
 #[test]
 fn words_and_names_are_kept(rt: HostRuntime) -> Result<(), Fail> {
-    let name = Name::new(rt.alloc(), b"n\xff1")?;
-    assert!(rt; name.bytes() == b"n\xff1".as_slice());
+    for text in [
+        b"".as_slice(),
+        b"n\xff1",
+        b"0123456789012345678901",
+        b"01234567890123456789012",
+        b"012345678901234567890123",
+        b"a name that is as long as a net in a hierarchy, which has the names of its blocks",
+    ] {
+        let name = Name::new(rt.alloc(), text)?;
+        assert!(rt; name.bytes() == text);
+    }
     let mut words = Argv::new(rt.alloc())?;
     words.push("check")?;
     assert!(rt; words.count() == 1);

@@ -1,6 +1,8 @@
 pub mod Words
 pub mod Numbers
+pub mod Keywords
 pub mod Law
+pub mod Plain
 pub mod Showing
 pub mod Taking
 pub mod Limits

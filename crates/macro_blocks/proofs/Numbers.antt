@@ -1,5 +1,5 @@
 -- Coordinates: those that are refused, and those that are read.
-use Rattle.std.proofs.Common.{◌≡◌, ◌≤◌, ◌^◌, length, arith, to_z, of_z, ℕ, ℤ, pos, Bool, true, false, List, [], ◌∷◌, ◌++◌, Option, Some, None, Result, Ok, Err, inl, inr, if◌then◌else◌, refl, sym, ◌∙◌, ap, subst}
+use Rattle.std.proofs.Common.{◌≡◌, ◌≤◌, ◌^◌, length, arith, to_z, of_z, ℕ, ℤ, pos, Bool, true, false, List, [], ◌∷◌, ◌++◌, Option, Some, None, Result, Ok, Err, inl, inr, if◌then◌else◌, refl, sym, ◌∙◌, ap, subst, append_assoc}
 use Rattle.std.specs.Int.{w64}
 use Rattle.std.specs.Prelude.{unsigned_abs}
 use Rattle.std.proofs.lemmas.Int.{to_z-of_z, fits_signed_from_abs}
@@ -131,6 +131,46 @@ noted_long numbers (a ∷ b ∷ c ∷ d ∷ []) h = absurd (omega arith)
 noted_long numbers (a ∷ b ∷ c ∷ d ∷ e ∷ []) h = absurd (omega arith)
 noted_long numbers (a ∷ b ∷ c ∷ d ∷ e ∷ f ∷ []) h = absurd (omega arith)
 noted_long numbers (a ∷ b ∷ c ∷ d ∷ e ∷ f ∷ g ∷ unit) h = refl
+
+-- ## a whole RECT
+
+-- What is the first of some is the first of more.
+pub first_of_more : (words more : List Token) (bad : Bad) → IsFirstBad words bad → IsFirstBad (words ++ more) bad
+first_of_more [] more bad h = absurd h
+first_of_more (w ∷ ws) more bad (inl h) = inl h
+first_of_more (w ∷ ws) more bad (inr h) = inr (h.0, first_of_more ws more bad h.1)
+
+-- It is the first after coordinates.
+pub first_after : (numbers words : List Token) (bad : Bad) → AreCoordinates numbers → IsFirstBad words bad → IsFirstBad (numbers ++ words) bad
+first_after [] words bad h k = k
+first_after (w ∷ ws) words bad h k = inr (h.0, first_after ws words bad h.1 k)
+
+all_after : (numbers words : List Token) → AreCoordinates numbers → AreCoordinates words → AreCoordinates (numbers ++ words)
+all_after [] words h k = k
+all_after (w ∷ ws) words h k = (h.0, all_after ws words h.1 k)
+
+noted_one : (numbers : List Token) (word : Token) → is_number (sort_of word) ≡ true → noted numbers word ≡ numbers ++ word ∷ []
+noted_one numbers word may = ap (λ b. if b then (numbers ++ word ∷ []) else numbers) may
+
+one_more : (numbers words : List Token) (word : Token) → (numbers ++ words) ++ word ∷ [] ≡ numbers ++ (words ++ word ∷ [])
+one_more numbers words word = simp append_assoc
+
+module _ (first a b c d stop : Token) (a_may : is_number (sort_of a) ≡ true) (b_may : is_number (sort_of b) ≡ true) (c_may : is_number (sort_of c) ≡ true) (d_may : is_number (sort_of d) ≡ true) where
+  -- Four words that stand for numbers are all noted.
+  noted_four : (numbers : List Token) → noted_in numbers (first ∷ a ∷ b ∷ c ∷ d ∷ stop ∷ []) ≡ numbers ++ (a ∷ b ∷ c ∷ d ∷ [])
+  noted_four numbers =
+      let one = noted_one numbers a a_may in
+      let two = ap (λ z. noted z b) one ∙ (noted_one (numbers ++ a ∷ []) b b_may ∙ one_more numbers (a ∷ []) b) in
+      let three = ap (λ z. noted z c) two ∙ (noted_one (numbers ++ a ∷ b ∷ []) c c_may ∙ one_more numbers (a ∷ b ∷ []) c) in
+      ap (λ z. noted z d) three ∙ (noted_one (numbers ++ a ∷ b ∷ c ∷ []) d d_may ∙ one_more numbers (a ∷ b ∷ c ∷ []) d)
+
+  pub four_bad : (numbers : List Token) (bad : Bad) → AreCoordinates numbers → IsFirstBad (a ∷ b ∷ c ∷ d ∷ []) bad →
+      IsBad (noted_in numbers (first ∷ a ∷ b ∷ c ∷ d ∷ stop ∷ [])) (Some bad)
+  four_bad numbers bad h k = subst (λ z. IsFirstBad z bad) (sym (noted_four numbers)) (first_after numbers (a ∷ b ∷ c ∷ d ∷ []) bad h k)
+
+  pub four_fine : (numbers : List Token) → AreCoordinates numbers → AreCoordinates (a ∷ b ∷ c ∷ d ∷ []) →
+      IsBad (noted_in numbers (first ∷ a ∷ b ∷ c ∷ d ∷ stop ∷ [])) None
+  four_fine numbers h k = subst (λ z. AreCoordinates z) (sym (noted_four numbers)) (all_after numbers (a ∷ b ∷ c ∷ d ∷ []) h k)
 
 -- ## an ORIGIN
 

@@ -1,5 +1,5 @@
 -- One more unit.
-use Rattle.std.proofs.Common.{◌≡◌, ℕ, Bool, true, false, List, [], ◌∷◌, ◌++◌, Some, None, Result, Ok, Err, OnOk, if◌then◌else◌, refl, sym, ◌∙◌, ap, subst}
+use Rattle.std.proofs.Common.{◌≡◌, ℕ, Bool, true, false, List, [], ◌∷◌, ◌++◌, Option, Some, None, Result, Ok, Err, OnOk, if◌then◌else◌, refl, sym, ◌∙◌, ap, subst}
 use Rattle.std.proofs.lemmas.List.{append-nil}
 use Rattle.std.specs.declared.alloc.AllocError.{AllocError}
 use Rattle.entry_list.specs.InTurn.{InTurn}
@@ -216,3 +216,21 @@ rect_left layer unit shapes rects other h =
     let none : drawn layer unit ≡ [] =
     ap (λ (z : Bool). if z then (the_shape layer unit ∷ []) else []) other in
     subst (λ (z : List Shape). InTurn SaysRect z rects) (sym (ap (λ z. shapes ++ z) none ∙ append-nil shapes)) h
+
+rects_by : (bad : Option Bad) (shapes : List Shape) (rects : List BlockRect) → InTurn SaysRect shapes rects → AreDrawn shapes bad rects
+rects_by None shapes rects h = h
+rects_by (Some bad) shapes rects h = tt
+
+-- The words of a RECT up to one that cannot stand there.
+pub draw_part : (there : Standing) (unit : List Token) (old new : Sections) → Stay old new → new.layer ≡ old.layer → old.bad ≡ None → new.rects.items ≡ old.rects.items →
+    is_rect unit ≡ false → ((numbers : List Token) → AreCoordinates numbers → IsBad (noted_in numbers unit) new.bad) → Leads acts.Draws there unit old new
+draw_part there unit old new stay layer fine rects other noted = λ said h. record {
+  macros = macros_as said.macros old.macros.items new.macros.items stay.macros h.macros;
+  pins = pins_as said.pins old.pins.items new.pins.items stay.pins h.pins;
+  obstructions = rects_as said.obstructions old.obstructions.items new.obstructions.items stay.obstructions h.obstructions;
+  layer = layer ∙ h.layer;
+  numbers = noted said.numbers (subst (λ z. IsBad said.numbers z) fine h.numbers);
+  rects = rects_by new.bad (said.shapes ++ drawn said.layer unit) new.rects.items
+      (rects_as _ old.rects.items new.rects.items rects
+      (rect_left said.layer unit said.shapes old.rects.items other (subst (λ z. AreDrawn said.shapes z old.rects.items) fine h.rects)));
+}

@@ -1,9 +1,14 @@
 //! The faults that the words of a unit show.
-ghost use Rattle.std.specs.Prelude.{◌≡◌, List, true};
+ghost use Rattle.std.specs.Prelude.{◌≡◌, List, map, true, IsTrue};
+ghost use Rattle.fixed_decimal.specs.declared.error.DecimalError.{DecimalError as Reason};
 ghost use Rattle.macro_blocks.specs.Fault.{Misplaced, Unless, NoCoordinate, OriginFault, CornerFault, EarlierFault, UseFault, UnfitFault, is_supply, StrayFault, FirstFault, SecondFault, ThirdFault, LaterFault, StopFault};
+ghost use Rattle.macro_blocks.specs.Number.{IsRefused};
+ghost use Rattle.number_place.specs.declared.place.Refused.TheVariants.{Number};
 ghost use Rattle.macro_blocks.specs.Sort.{the, sort_of};
 ghost use Rattle.macro_blocks.specs.Standing.{is_known};
+ghost use Rattle.macro_blocks.specs.declared.standing.Standing.{Standing as There};
 ghost use Rattle.macro_blocks.specs.inside.Held.{IsBad};
+ghost use Rattle.macro_blocks.specs.inside.Fault.{IsFineIn};
 ghost use Rattle.reading.specs.Fault.{Finds};
 ghost use Rattle.reading.specs.Word.{Token, token};
 
@@ -12,6 +17,7 @@ use crate::number::{Bad, coordinate_of, is_number};
 use crate::section::Section;
 use crate::sort::{Sort, sort_of};
 use crate::standing::{Standing, is_known, is_name, is_own, is_stop};
+use fixed_decimal::is_short;
 use number_place::{texts_have_one_number, values_fit_their_places};
 use reading::Word;
 
@@ -268,5 +274,45 @@ pub(crate) fn stop_fault(
     match section {
         Section::Layered => misplaced(is_known(&standing.pin), is_stop(stop)),
         _ => None,
+    }
+}
+
+/// So many digits before its point a coordinate may have, whatever they are.
+const WHOLE: usize = 5;
+
+/// Whether the word is a bare word that is no keyword, and plainly a coordinate: it has few digits. Its value is not asked.
+fn is_plain_coordinate(word: &Word<'_>) -> bool
+    ensures bare { IsTrue result → sort_of (token word.now) ≡ Sort.Other }
+    ensures fine { IsTrue result → (error : Reason) → IsRefused (token word.now) (Number error) → ⊥ }
+{
+    texts_have_one_number();
+    matches!(sort_of(word), Sort::Other) && is_short(word.text, WHOLE, 6)
+}
+
+/// Whether it is plain that the last word of a unit after a LAYER shows no fault.
+fn is_fine_after_layer(unit: &[Word<'_>]) -> bool
+    ensures { IsTrue result → (standing : There) (numbers : List Token) →
+        IsFineIn Section.Layered standing numbers (map token unit.now) }
+{
+    match unit {
+        [first] => !is_stop(first),
+        [_, word] => is_plain_coordinate(word),
+        [_, _, word] => is_plain_coordinate(word),
+        [_, _, _, word] => is_plain_coordinate(word),
+        [_, _, _, _, word] => is_plain_coordinate(word),
+        [_, _, _, _, _, stop] => is_stop(stop),
+        _ => false,
+    }
+}
+
+/// Whether it is plain that the last word of a unit shows no fault, as few words do. Where it is not, each fault has to be looked for.
+pub(crate) fn is_fine(section: Section, unit: &[Word<'_>]) -> bool
+    ensures { IsTrue result → (standing : There) (numbers : List Token) →
+        IsFineIn section standing numbers (map token unit.now) }
+{
+    match section {
+        Section::Passed => true,
+        Section::Layered => is_fine_after_layer(unit),
+        _ => false,
     }
 }

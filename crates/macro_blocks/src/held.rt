@@ -1,20 +1,18 @@
 //! What has been read of the text of blocks.
 //!
-//! The numbers of what counts have shown no fault. Where one could not be read all the same, the answer is want of memory,
-//! which no clause ties to anything; it never comes.
-ghost use Rattle.std.specs.Prelude.{◌≡◌, List, [], ◌∷◌, ◌++◌, None, OnOk, IfOk, map};
+//! Four words that stand for numbers stand in a whole RECT, and none of what a pin or obstructions end with is refused. Where it
+//! could be otherwise all the same, the answer is want of memory, which no clause ties to anything; it never comes.
+ghost use Rattle.std.specs.Prelude.{◌≡◌, List, [], ◌∷◌, ◌++◌, None, true, OnOk, IfOk, map};
 ghost use Rattle.std.specs.Int.{int_min, int_max};
-ghost use Rattle.macro_blocks.specs.Number.{IsCoordinate};
-ghost use Rattle.entry_list.specs.InTurn.{InTurn};
-ghost use Rattle.macro_blocks.specs.Record.{Shape, SaysCorners, SaysRect, drawn, nothing_said};
-ghost use Rattle.macro_blocks.specs.Standing.{pin_name};
+ghost use Rattle.macro_blocks.specs.Record.{nothing_said};
+ghost use Rattle.macro_blocks.specs.Standing.{is_rect, pin_name};
 ghost use Rattle.macro_blocks.specs.declared.standing.Standing.{Standing as There};
 ghost use Rattle.macro_blocks.specs.inside.Held.{Tells, Holds, Leads};
 ghost use Rattle.reading.specs.Word.{Token, token};
 
 use crate::act::{Act, act_of};
 use crate::label::Label;
-use crate::number::{Bad, bad_in, coordinate_of};
+use crate::number::{Bad, Corners, are_numbers, bad_in, corners_at};
 use crate::record::{BlockMacro, BlockPin, BlockRect};
 use crate::standing::{Standing, is_rect, pin_name};
 use entry_list::Entries;
@@ -72,42 +70,15 @@ impl<'a> Held<'a> {
     }
 }
 
-/// The coordinate that the word is.
-fn number_of(word: &Word<'_>) -> Result<i64, AllocError>
-    ensures { IfOk result (IsCoordinate (token word.now)) }
-{
-    match coordinate_of(word) {
-        Ok(value) => Ok(value),
-        Err(_) => Err(AllocError),
-    }
-}
-
-/// A corner of a rectangle.
-#[derive(Clone, Copy, Debug)]
-struct Corner {
-    x: i64,
-    y: i64,
-}
-
-/// The corner that two words are.
-fn corner_of(x: &Word<'_>, y: &Word<'_>) -> Result<Corner, AllocError>
-    ensures x { IfOk result (λ corner. IsCoordinate (token x.now) corner.x) }
-    ensures y { IfOk result (λ corner. IsCoordinate (token y.now) corner.y) }
-{
-    Ok(Corner {
-        x: number_of(x)?,
-        y: number_of(y)?,
-    })
-}
-
 /// The least rectangle of two corners.
-fn between(layer: Name, one: Corner, other: Corner) -> BlockRect
+fn between(layer: Name, corners: Corners) -> BlockRect
     ensures layer { result.layer ≡ layer }
-    ensures x1 { result.x1 ≡ int_min one.x other.x }
-    ensures y1 { result.y1 ≡ int_min one.y other.y }
-    ensures x2 { result.x2 ≡ int_max one.x other.x }
-    ensures y2 { result.y2 ≡ int_max one.y other.y }
+    ensures x1 { result.x1 ≡ int_min corners.one.x corners.other.x }
+    ensures y1 { result.y1 ≡ int_min corners.one.y corners.other.y }
+    ensures x2 { result.x2 ≡ int_max corners.one.x corners.other.x }
+    ensures y2 { result.y2 ≡ int_max corners.one.y corners.other.y }
 {
+    let Corners { one, other } = corners;
     BlockRect {
         layer,
         x1: one.x.min(other.x),
@@ -115,36 +86,6 @@ fn between(layer: Name, one: Corner, other: Corner) -> BlockRect
         x2: one.x.max(other.x),
         y2: one.y.max(other.y),
     }
-}
-
-/// The rectangle of a whole RECT on this layer.
-fn rect_of(alloc: Global, layer: &Label<'_>, unit: &[Word<'_>]) -> Result<BlockRect, AllocError>
-    ensures layer { IfOk result (λ rect. rect.layer ≡ layer.now) }
-    ensures corners { IfOk result (SaysCorners (map token unit.now)) }
-{
-    let [_, a, b, c, d, _] = unit else {
-        return Err(AllocError);
-    };
-    let one = corner_of(a, b)?;
-    let other = corner_of(c, d)?;
-    Ok(between(Name::new(alloc, layer.bytes())?, one, other))
-}
-
-/// One more rectangle, where the RECT is whole.
-fn add_rect(
-    alloc: Global,
-    rects: &mut Vec<BlockRect>,
-    layer: &Label<'_>,
-    unit: &[Word<'_>],
-) -> Result<(), AllocError>
-    ensures { OnOk result ((shapes : List Shape) → InTurn SaysRect shapes rects.old.items →
-        InTurn SaysRect (shapes ++ drawn layer.now (map token unit.now)) rects.new.items) }
-{
-    if !is_rect(unit) {
-        return Ok(());
-    }
-    rects.push(rect_of(alloc, layer, unit)?)?;
-    Ok(())
 }
 
 /// The pin of this name.
@@ -203,16 +144,38 @@ impl<'a> Sections<'a> {
         Ok(())
     }
 
+    /// A whole RECT where no number before it is refused.
+    fn draw_whole(&mut self, alloc: Global, unit: &[Word<'_>]) -> Result<(), AllocError>
+        requires fine { self.now.bad ≡ None }
+        requires whole { is_rect (map token unit.now) ≡ true }
+        ensures { OnOk result ((there : There) → Leads Act.Draws there (map token unit.now) self.old self.new) }
+    {
+        let [_, a, b, c, d, _] = unit else {
+            return Err(AllocError);
+        };
+        if !are_numbers(a, b, c, d) {
+            return Err(AllocError);
+        }
+        match corners_at(a, b, c, d) {
+            Ok(corners) => {
+                let layer = Name::new(alloc, self.layer.bytes())?;
+                self.rects.push(between(layer, corners))?;
+            }
+            Err(bad) => self.bad = Some(bad),
+        }
+        Ok(())
+    }
+
     /// A RECT where no number before it is refused.
     fn draw(&mut self, alloc: Global, unit: &[Word<'_>]) -> Result<(), AllocError>
         requires { self.now.bad ≡ None }
         ensures { OnOk result ((there : There) → Leads Act.Draws there (map token unit.now) self.old self.new) }
     {
-        self.bad = bad_in(unit);
-        match self.bad {
-            Some(_) => Ok(()),
-            None => add_rect(alloc, &mut self.rects, &self.layer, unit),
+        if is_rect(unit) {
+            return self.draw_whole(alloc, unit);
         }
+        self.bad = bad_in(unit);
+        Ok(())
     }
 
     /// A RECT, or its words up to one that cannot stand there.

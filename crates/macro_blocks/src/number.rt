@@ -1,7 +1,7 @@
 //! The coordinates of a LEF library.
-ghost use Rattle.std.specs.Prelude.{◌≡◌, List, map, IfOk, IfErr};
+ghost use Rattle.std.specs.Prelude.{◌≡◌, List, [], ◌∷◌, map, true, IsTrue, IfOk, IfErr};
 ghost use Rattle.fixed_decimal.specs.declared.error.DecimalError.{DecimalError as Reason};
-ghost use Rattle.macro_blocks.specs.Fault.{AreCoordinates};
+ghost use Rattle.macro_blocks.specs.Fault.{AreCoordinates, IsFirstBad};
 ghost use Rattle.macro_blocks.specs.Number.{IsCoordinate, IsRefused};
 ghost use Rattle.macro_blocks.specs.Record.{noted, noted_in};
 ghost use Rattle.macro_blocks.specs.Rule.{is_number};
@@ -81,6 +81,83 @@ fn bad_after(bad: Option<Bad>, word: &Word<'_>) -> Option<Bad>
         Some(bad) => Some(bad),
         None => first_bad(word),
     }
+}
+
+/// The coordinate that the word is, or that it is refused.
+fn coordinate_at(word: &Word<'_>) -> Result<i64, Bad>
+    ensures value { IfOk result (IsCoordinate (token word.now)) }
+    ensures bad { IfErr result (IsFirstBad (token word.now ∷ [])) }
+{
+    match coordinate_of(word) {
+        Ok(value) => Ok(value),
+        Err(error) => Err(Bad {
+            place: word.place,
+            error,
+        }),
+    }
+}
+
+/// A corner of a rectangle.
+#[derive(Clone, Copy, Debug)]
+pub(crate) struct Corner {
+    pub(crate) x: i64,
+    pub(crate) y: i64,
+}
+
+/// The corner that two words are, or the first of them that is refused.
+fn corner_at(x: &Word<'_>, y: &Word<'_>) -> Result<Corner, Bad>
+    ensures x { IfOk result (λ corner. IsCoordinate (token x.now) corner.x) }
+    ensures y { IfOk result (λ corner. IsCoordinate (token y.now) corner.y) }
+    ensures bad { IfErr result (IsFirstBad (token x.now ∷ token y.now ∷ [])) }
+{
+    let x = match coordinate_at(x) {
+        Ok(x) => x,
+        Err(bad) => return Err(bad),
+    };
+    match coordinate_at(y) {
+        Ok(y) => Ok(Corner { x, y }),
+        Err(bad) => Err(bad),
+    }
+}
+
+/// Two opposite corners of a rectangle.
+#[derive(Clone, Copy, Debug)]
+pub(crate) struct Corners {
+    pub(crate) one: Corner,
+    pub(crate) other: Corner,
+}
+
+/// The corners that four words are, or the first of them that is refused.
+pub(crate) fn corners_at(
+    a: &Word<'_>,
+    b: &Word<'_>,
+    c: &Word<'_>,
+    d: &Word<'_>,
+) -> Result<Corners, Bad>
+    ensures a { IfOk result (λ corners. IsCoordinate (token a.now) corners.one.x) }
+    ensures b { IfOk result (λ corners. IsCoordinate (token b.now) corners.one.y) }
+    ensures c { IfOk result (λ corners. IsCoordinate (token c.now) corners.other.x) }
+    ensures d { IfOk result (λ corners. IsCoordinate (token d.now) corners.other.y) }
+    ensures bad { IfErr result (IsFirstBad (token a.now ∷ token b.now ∷ token c.now ∷ token d.now ∷ [])) }
+{
+    let one = match corner_at(a, b) {
+        Ok(one) => one,
+        Err(bad) => return Err(bad),
+    };
+    match corner_at(c, d) {
+        Ok(other) => Ok(Corners { one, other }),
+        Err(bad) => Err(bad),
+    }
+}
+
+/// Whether four words stand for numbers.
+pub(crate) fn are_numbers(a: &Word<'_>, b: &Word<'_>, c: &Word<'_>, d: &Word<'_>) -> bool
+    ensures a { IsTrue result → is_number (sort_of (token a.now)) ≡ true }
+    ensures b { IsTrue result → is_number (sort_of (token b.now)) ≡ true }
+    ensures c { IsTrue result → is_number (sort_of (token c.now)) ≡ true }
+    ensures d { IsTrue result → is_number (sort_of (token d.now)) ≡ true }
+{
+    is_number(a) && is_number(b) && is_number(c) && is_number(d)
 }
 
 /// The first of two words.

@@ -1,11 +1,23 @@
 ghost use Rattle.std.specs.Prelude.{◌≡◌};
 ghost use Rattle.macro_blocks.specs.Sort.{number_of, all_sorts, sort_of_text, sort_of, listed, few};
+ghost use Rattle.macro_blocks.specs.inside.Number.{begins_number};
 ghost use Rattle.reading.specs.Word.{token};
 
 use reading::{Form, Numbered, Word, keyword_or};
 
-/// The sort of a bare word.
-fn sort_of_text(text: &[u8]) -> Sort
+/// Whether the text begins as a number does, and as no keyword.
+#[inline(always)]
+fn begins_number(text: &[u8]) -> bool
+    ensures { result ≡ begins_number text.now }
+{
+    match text.first() {
+        Some(first) => first.is_ascii_digit() || *first == b'-',
+        None => false,
+    }
+}
+
+/// The sort of a bare word, which is compared with each keyword.
+fn keyword_sort(text: &[u8]) -> Sort
     ensures { result ≡ sort_of_text text.now }
 {
     keyword_or!(text;
@@ -17,6 +29,18 @@ fn sort_of_text(text: &[u8]) -> Sort
         b"PORT" => Sort::Port, b"USE" => Sort::Use, b"POWER" => Sort::Power, b"GROUND" => Sort::Ground,
         b"OBS" => Sort::Obs, b"DENSITY" => Sort::Density, b"(" => Sort::Bracket, b")" => Sort::Bracket;
         Sort::Other)
+}
+
+/// The sort of a bare word. Most are numbers, which need not be compared.
+#[inline(always)]
+fn sort_of_text(text: &[u8]) -> Sort
+    ensures { result ≡ sort_of_text text.now }
+{
+    if begins_number(text) {
+        Sort::Other
+    } else {
+        keyword_sort(text)
+    }
 }
 
 /// What a word of a LEF library is, wherever it stands.
@@ -67,6 +91,7 @@ pub(crate) enum Sort {
 }
 
 /// The sort of a word.
+#[inline(always)]
 pub(crate) fn sort_of(word: &Word<'_>) -> Sort
     ensures { result ≡ sort_of (token word.now) }
 {

@@ -134,7 +134,7 @@ pub(crate) fn is_name(word: &Word<'_>) -> bool
 pub(crate) fn is_stop(word: &Word<'_>) -> bool
     ensures { result ≡ the Sort.Semicolon (sort_of (token word.now)) }
 {
-    matches!(sort_of(word), Sort::Semicolon)
+    is_word(b";", word)
 }
 
 /// Whether the unit is a whole RECT, and not its words up to one that cannot stand there.

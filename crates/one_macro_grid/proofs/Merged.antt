@@ -1,8 +1,6 @@
 -- The pieces of straps and of pins are merged in one way.
 use Rattle.std.proofs.Common.{◌≡◌, Equal, List, ◌++◌, IsPermutation, refl, subst, arith}
-use Rattle.std.specs.Cmp.{IsTotalOrder}
 use Rattle.std.specs.Ordering.{nat_cmp, int_cmp}
-use Rattle.std.proofs.lemmas.Cmp.{nat_cmp_total, int_cmp_total, on_total, then_total}
 use Rattle.geom_rect.specs.declared.direction.Axis.{Axis}
 use Rattle.geom_rect.specs.declared.direction.Axis.TheVariants.{X, Y}
 use Rattle.geom_rect.specs.declared.drawn.Shape.{Shape}
@@ -10,22 +8,9 @@ use Rattle.geom_rect.specs.declared.drawn.Shape.TheVariants.{Ring, Stripe, Follo
 use Rattle.grid_pieces.specs.declared.piece.Piece.{Piece}
 use Rattle.grid_pieces.specs.Laws.Orders.{then_equal, nat_equal, int_equal}
 use Rattle.grid_pieces.specs.Piece.{piece_order, place_of}
+use Rattle.macro_grid.specs.Laws.Orders.{whole_total}
 use Rattle.macro_grid.specs.Drawing.{axis_place, whole_order, AreMerged}
 use Rattle.one_macro_grid.proofs.Sorted.{sorted_one_way}
-
--- ## the order of pieces
-
-piece_total : IsTotalOrder piece_order
-piece_total =
-    then_total
-    (then_total (then_total (then_total (on_total (λ (a : Piece). a.net) nat_cmp_total) (on_total (λ (a : Piece). a.layer) nat_cmp_total)) (on_total (λ (a : Piece). a.centre) int_cmp_total))
-    (on_total (λ (a : Piece). a.from) int_cmp_total))
-    (on_total (λ (a : Piece). a.width) int_cmp_total)
-
-whole_total : IsTotalOrder whole_order
-whole_total =
-    then_total (then_total (then_total piece_total (on_total (λ (a : Piece). a.to) int_cmp_total)) (on_total (λ (a : Piece). axis_place a.axis) nat_cmp_total))
-    (on_total (λ (a : Piece). place_of a.shape) nat_cmp_total)
 
 -- ## pieces that are alike are one
 

@@ -14,7 +14,8 @@ use Rattle.block_grids.specs.Blocks.{is_block, numbered}
 use Rattle.macro_grid.specs.declared.record.MacroGrid.{MacroGrid}
 use Rattle.pin_taps.specs.Taps.{block_taps, IsOwned, AreBlockTaps, AreTapsBy, AreMacroTapsFor, AreMacroTaps, IsMacroLoadOff}
 use Rattle.one_network.specs.Laws.Lists.{in_order_one}
-use Rattle.one_network.specs.Laws.Tapped.{one_range, one_owner, taps_of_one}
+use Rattle.grid_taps.specs.Laws.Unique.{one_range, one_owner}
+use Rattle.one_network.specs.Laws.Tapped.{taps_of_one}
 
 module _ (drawn : MacroGrid) (cells : Cells) (design : Design) (bias : Bias) where
   -- which components are off, and what all taps are

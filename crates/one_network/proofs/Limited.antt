@@ -24,7 +24,7 @@ use Rattle.grid_network.specs.declared.key.Key.{Key}
 use Rattle.em_rules.specs.Limit.{IsDensity, IsLimit, IsWireLimit, IsCutLimit}
 use Rattle.grid_limits.specs.Limits.{IsBranchLimit, IsPieceLimit, IsArrayLimit, AreGridLimits}
 use Rattle.signoff_report.specs.declared.records.Limits.{Limits}
-use Rattle.one_network.specs.Laws.Lists.{in_turn_one}
+use Rattle.entry_list.specs.Laws.{in-turn-one}
 
 -- ## limits
 
@@ -103,7 +103,7 @@ module _ (tech : Tech) (grid : Grid) (keeps : TechKeeps tech) where
       → ArraysHaveOne → (keys : List Key) (branches : List Branch) (bias : Bias) (a b : Limits)
       → AreGridLimits tech grid keys branches bias a → AreGridLimits tech grid keys branches bias b → a ≡ b
   limits_one wires arrays keys branches bias a b p q =
-      let of_branches = in_turn_one (IsBranchLimit tech grid) (branch_limit_one wires arrays) branches a.branches b.branches p.of_branches q.of_branches in
+      let of_branches = in-turn-one (IsBranchLimit tech grid) (branch_limit_one wires arrays) branches a.branches b.branches p.of_branches q.of_branches in
       let of_nets = p.of_nets ∙ sym q.of_nets in
       let nets_of = p.nets_of ∙ sym q.nets_of in
       λ i. record { branches = of_branches i; nets = of_nets i; net_of = nets_of i }

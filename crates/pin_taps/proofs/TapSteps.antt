@@ -15,7 +15,7 @@ use Rattle.grid_taps.specs.Naming.{At, IsLeast}
 use Rattle.grid_taps.specs.Pads.{InOrder}
 use Rattle.grid_taps.specs.Taps.{IsRange, IsUnowned}
 use Rattle.grid_taps.specs.Laws.Ordered.{order_more}
-use Rattle.grid_taps.specs.Laws.Unique.{one_at, one_high, tapped_lacks_none}
+use Rattle.grid_taps.specs.Laws.Unique.{one_at, one_range, tapped_lacks_none}
 use Rattle.macro_grid.specs.declared.record.MacroGrid.{MacroGrid}
 use Rattle.pin_taps.specs.declared.tapping.BlockTables.{BlockTables}
 use Rattle.pin_taps.specs.Fed.{feeding}
@@ -84,7 +84,7 @@ not_off : (drawn : MacroGrid) (cells : Cells) (bias : Bias) → CellsKeep cells 
 not_off drawn cells bias keep keeps number component taps low high (low', high', range, by_high) is some none = by_cases by_high
   where
     by_cases : ((high' ≡ pos 0) × (taps ≡ [])) ⊎ ((high' ≡ pos 0 → ⊥) × AreTapsBy (is_block cells component) drawn cells number component low' high' taps) → ⊥
-    by_cases (inl zero) = some (one_high bias keeps component low high low' high' is range ∙ zero.0)
+    by_cases (inl zero) = some ((one_range bias keeps component low high low' high' is range).1 ∙ zero.0)
     by_cases (inr tapped) = tapped_or_not drawn cells keep number component low' high' taps (is_block cells component) refl tapped.1 none
 
 -- ## one after another

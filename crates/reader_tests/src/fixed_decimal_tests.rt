@@ -299,6 +299,42 @@ const EXPONENTS: [Row; 15] = [
     (b"1e9223372036854775808", Err(Range), Err(Range)),
 ];
 
+// Texts whose value is read from few digits, and others near them, at 6 places.
+const FEW: [Row; 12] = [
+    (
+        b"99999999999999999",
+        Ok(99999999999999999000000),
+        Ok(99999999999999999000000),
+    ),
+    (
+        b"100000000000000000",
+        Ok(100000000000000000000000),
+        Ok(100000000000000000000000),
+    ),
+    (b"-9.99999999999999999", Ok(-10000000), Ok(-10000000)),
+    (
+        b"12345678901.234567",
+        Ok(12345678901234567),
+        Ok(12345678901234567),
+    ),
+    (
+        b"-123456789012.345678",
+        Ok(-123456789012345678),
+        Ok(-123456789012345678),
+    ),
+    (
+        b"1234567890123.456789",
+        Ok(1234567890123456789),
+        Ok(1234567890123456789),
+    ),
+    (b"0.0000001", Err(Vanishes), Err(Vanishes)),
+    (b"0.0000005", Ok(1), Ok(1)),
+    (b"1.0000000", Ok(1000000), Ok(1000000)),
+    (b"000000000000000000001.5", Ok(1500000), Ok(1500000)),
+    (b"-0.000000", Ok(0), Ok(0)),
+    (b"+0.070", Ok(70000), Ok(70000)),
+];
+
 fn check(rt: &impl Abort, rows: &[Row], places: u32, limit: u128)
     requires places { places ≤ 30 }
     requires limit { limit ≤ 10 ^ 37 }
@@ -321,6 +357,7 @@ fn texts_of_a_table(rt: HostRuntime) {
     check(&rt, &PLACES, 30, 10u128.pow(37));
     check(&rt, &LONG, 0, 10u128.pow(37));
     check(&rt, &EXPONENTS, 9, 10u128.pow(30));
+    check(&rt, &FEW, 6, 10u128.pow(30));
 }
 
 #[test]
@@ -525,5 +562,32 @@ fn whole_numbers(rt: HostRuntime) {
     for (text, want) in INTEGERS {
         let answer = read_integer(text, 1000);
         assert_eq!(rt; answer, want, "at {text:?}");
+    }
+}
+
+// Texts, and whether they have at most three digits before a point and two after it.
+const SHORT: [(&[u8], bool); 16] = [
+    (b"0", true),
+    (b"999", true),
+    (b"1000", false),
+    (b"-12.34", true),
+    (b"+12.34", true),
+    (b"12.345", false),
+    (b"12.", true),
+    (b"12..", false),
+    (b".5", false),
+    (b"", false),
+    (b"-", false),
+    (b"--1", false),
+    (b"1e2", false),
+    (b"1.5k", false),
+    (b"1.2.3", false),
+    (b"x", false),
+];
+
+#[test]
+fn short_numbers(rt: HostRuntime) {
+    for (text, want) in SHORT {
+        assert_eq!(rt; is_short(text, 3, 2), want, "of {text:?}");
     }
 }

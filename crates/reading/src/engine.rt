@@ -20,6 +20,7 @@ use outside::Place;
 use std::alloc::{AllocError, Global};
 
 /// The node of the pattern of what may follow.
+#[inline(always)]
 fn start<'a, G: Grammar<'a>>(
     machine: &mut Machine,
     grammar: &G,
@@ -77,6 +78,7 @@ fn place_at(unit: &[Word], at: usize) -> Place
 }
 
 /// What the last word of the open unit does to it.
+#[inline(always)]
 fn step<'a, G: Grammar<'a>>(
     machine: &mut Machine,
     grammar: &G,
@@ -127,6 +129,8 @@ where
 }
 
 /// Takes one more word into the open unit.
+// Into the loop over the words, as what it calls, so that neither words nor answers are copied for a call.
+#[inline(always)]
 fn advance<'a, G: Grammar<'a>>(
     machine: &mut Machine,
     grammar: &G,
@@ -201,6 +205,7 @@ fn has_ended<'a, G: Grammar<'a>>(grammar: &G, said: &G::Record, done: Step) -> b
 }
 
 /// Reads the end of a text that its units have ended, as its last word.
+#[cold]
 fn finish<'a, G: Grammar<'a>>(
     machine: &mut Machine,
     grammar: &G,

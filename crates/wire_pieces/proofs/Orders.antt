@@ -1,21 +1,14 @@
 -- Orders by several numbers in turn, and then by axis.
-use Rattle.std.proofs.Common.{◌≡◌, Bool, true, false, Ordering, subst, refl, sym, ap, ◌∙◌}
+use Rattle.std.proofs.Common.{◌≡◌, Bool, true, false, Ordering, refl, sym, ap, ◌∙◌}
 use Rattle.std.specs.declared.cmp.Ordering.TheVariants.{Less, Equal, Greater}
 use Rattle.std.specs.Cmp.{IsTotalOrder, bool_cmp_total}
-use Rattle.std.specs.Ordering.{nat_cmp, int_cmp, bool_cmp, ordering_then, ordering_reverse, is_lt, is_gt}
+use Rattle.std.specs.Ordering.{bool_cmp, ordering_reverse, is_lt, is_gt}
 use Rattle.std.proofs.lemmas.Bool.{false≢true}
-use Rattle.std.proofs.lemmas.Cmp.{nat_cmp_total, int_cmp_total, on_total, then_total, tied_itself}
+use Rattle.std.proofs.lemmas.Cmp.{nat_cmp_total, int_cmp_total, on_total, then_total}
 use Rattle.grid_pieces.specs.declared.piece.Piece.{Piece}
-use Rattle.grid_pieces.specs.Piece.{piece_order}
+use Rattle.grid_pieces.specs.Laws.Orders.{piece_total}
 use Rattle.wire_pieces.specs.Pieces.{is_upright, wire_order}
 use Rattle.wire_pieces.specs.inside.Centre.{line_order, reach_order}
-
-pub piece_total : IsTotalOrder piece_order
-piece_total =
-    then_total
-    (then_total (then_total (then_total (on_total (λ (a : Piece). a.net) nat_cmp_total) (on_total (λ (a : Piece). a.layer) nat_cmp_total)) (on_total (λ (a : Piece). a.centre) int_cmp_total))
-    (on_total (λ (a : Piece). a.from) int_cmp_total))
-    (on_total (λ (a : Piece). a.width) int_cmp_total)
 
 pub wire_total : IsTotalOrder wire_order
 wire_total = then_total piece_total (on_total (λ (a : Piece). is_upright a.axis) bool_cmp_total)

@@ -6,8 +6,10 @@ use Rattle.std.specs.Ordering.{nat_cmp, int_cmp, ordering_then, ordering_reverse
 use Rattle.std.specs.List.Sorted.{IsSortedBy}
 use Rattle.std.proofs.lemmas.Bool.{false≢true}
 use Rattle.std.proofs.lemmas.Int.{ints}
-use Rattle.std.proofs.lemmas.Cmp.{by_ranked, ranked, int_ranked}
+use Rattle.std.proofs.lemmas.Cmp.{by_ranked, ranked, int_ranked, nat_cmp_total, int_cmp_total, on_total, then_total}
 use Rattle.std.proofs.lemmas.List.Sorted.{sorted_far, ranks_by}
+use Rattle.grid_pieces.specs.declared.piece.Piece.{Piece}
+use Rattle.grid_pieces.specs.Piece.{piece_order}
 
 pub then_equal : (a b : Ordering) → ordering_then a b ≡ Equal → (a ≡ Equal) × (b ≡ Equal)
 then_equal Less b e = absurd (cc)
@@ -60,3 +62,11 @@ ge_from a b h =
 pub not_gt : (a b : ℤ) → a ≤ℤ b → is_gt (int_cmp a b) ≡ false
 not_gt a b le =
     by_ranked (a <ℤ b) (a ≡ b) (b <ℤ a) (int_cmp a b) (int_ranked a b (int_cmp a b) refl) (λ o p. ap is_gt o) (λ o p. ap is_gt o) (λ o p. absurd (omega (arith, ints)))
+
+-- Pieces are sorted in one way.
+pub piece_total : IsTotalOrder piece_order
+piece_total =
+    then_total
+    (then_total (then_total (then_total (on_total (λ (a : Piece). a.net) nat_cmp_total) (on_total (λ (a : Piece). a.layer) nat_cmp_total)) (on_total (λ (a : Piece). a.centre) int_cmp_total))
+    (on_total (λ (a : Piece). a.from) int_cmp_total))
+    (on_total (λ (a : Piece). a.width) int_cmp_total)

@@ -47,25 +47,25 @@ one_named {X} name_of xs distinct a b (i, in_i, is_a) (j, in_j, is_b) same = by_
 -- ## the range
 
 one_line : (lines : List Amps) → AreDistinct (map (λ (a : Amps). a.name) lines) → (name : List ℕ) (low high low' high' : ℤ)
-    → IsLine lines name low high → IsLine lines name low' high' → high ≡ high'
+    → IsLine lines name low high → IsLine lines name low' high' → (low ≡ low') × (high ≡ high')
 one_line lines distinct name low high low' high' (a, in_a, (a_name, a_low, a_high)) (b, in_b, (b_name, b_low, b_high)) =
     let one = one_named (λ (z : Amps). z.name) lines distinct a b in_a in_b (a_name ∙ sym b_name) in
-    sym a_high ∙ ap (λ (z : Amps). z.high) one ∙ b_high
+    (sym a_low ∙ ap (λ (z : Amps). z.low) one ∙ b_low, sym a_high ∙ ap (λ (z : Amps). z.high) one ∙ b_high)
 
 no_line : (lines : List Amps) (name : List ℕ) (low high : ℤ) → IsLine lines name low high → HasNoLine lines name → ⊥
 no_line lines name low high (a, in_a, (a_name, _, _)) none = none a in_a a_name
 
-pub one_high : (bias : Bias) → BiasKeeps bias → (component : Component) (low high low' high' : ℤ) → IsRange bias component low high
-    → IsRange bias component low' high' → high ≡ high'
-one_high bias keeps component low high low' high' (inl p) (inl q) = one_line bias.instances keeps.components component.name low high low' high' p q
-one_high bias keeps component low high low' high' (inl p) (inr (inl q)) = absurd (no_line bias.instances component.name low high p q.0)
-one_high bias keeps component low high low' high' (inl p) (inr (inr q)) = absurd (no_line bias.instances component.name low high p q.0)
-one_high bias keeps component low high low' high' (inr (inl p)) (inl q) = absurd (no_line bias.instances component.name low' high' q p.0)
-one_high bias keeps component low high low' high' (inr (inr p)) (inl q) = absurd (no_line bias.instances component.name low' high' q p.0)
-one_high bias keeps component low high low' high' (inr (inl p)) (inr (inl q)) = one_line bias.cells keeps.macros component.cell low high low' high' p.1 q.1
-one_high bias keeps component low high low' high' (inr (inl p)) (inr (inr q)) = absurd (no_line bias.cells component.cell low high p.1 q.1)
-one_high bias keeps component low high low' high' (inr (inr p)) (inr (inl q)) = absurd (no_line bias.cells component.cell low' high' q.1 p.1)
-one_high bias keeps component low high low' high' (inr (inr p)) (inr (inr q)) = p.3 ∙ sym q.3
+pub one_range : (bias : Bias) → BiasKeeps bias → (component : Component) (low high low' high' : ℤ) → IsRange bias component low high
+    → IsRange bias component low' high' → (low ≡ low') × (high ≡ high')
+one_range bias keeps component low high low' high' (inl p) (inl q) = one_line bias.instances keeps.components component.name low high low' high' p q
+one_range bias keeps component low high low' high' (inl p) (inr (inl q)) = absurd (no_line bias.instances component.name low high p q.0)
+one_range bias keeps component low high low' high' (inl p) (inr (inr q)) = absurd (no_line bias.instances component.name low high p q.0)
+one_range bias keeps component low high low' high' (inr (inl p)) (inl q) = absurd (no_line bias.instances component.name low' high' q p.0)
+one_range bias keeps component low high low' high' (inr (inr p)) (inl q) = absurd (no_line bias.instances component.name low' high' q p.0)
+one_range bias keeps component low high low' high' (inr (inl p)) (inr (inl q)) = one_line bias.cells keeps.macros component.cell low high low' high' p.1 q.1
+one_range bias keeps component low high low' high' (inr (inl p)) (inr (inr q)) = absurd (no_line bias.cells component.cell low high p.1 q.1)
+one_range bias keeps component low high low' high' (inr (inr p)) (inr (inl q)) = absurd (no_line bias.cells component.cell low' high' q.1 p.1)
+one_range bias keeps component low high low' high' (inr (inr p)) (inr (inr q)) = (p.2 ∙ sym q.2, p.3 ∙ sym q.3)
 
 -- ## the place
 
@@ -80,7 +80,7 @@ one_first regions place k l p q = by_order (cases_lt k l) (cases_lt l k)
 pub one_at : {X : Type 0} (xs : List X) (k l : ℕ) (a b : X) → k ≡ l → At xs k a → At xs l b → a ≡ b
 one_at xs k l a b same (in_k, is_a) (in_l, is_b) = sym is_a ∙ ap (λ n. get_or xs n a) same ∙ get_or_default xs l a b in_l ∙ is_b
 
-one_owner : (grid : Grid) (place place' : ℤ × ℤ) (domain domain' : DomainAt) → place ≡ place' → IsOwner grid place domain → IsOwner grid place' domain'
+pub one_owner : (grid : Grid) (place place' : ℤ × ℤ) (domain domain' : DomainAt) → place ≡ place' → IsOwner grid place domain → IsOwner grid place' domain'
     → domain ≡ domain'
 one_owner grid place place' domain domain' same (k, first, at) (l, first', at') =
     one_at grid.domains k l domain domain' (one_first (regions_of grid) place' k l (subst (λ (z : ℤ × ℤ). IsFirstOwner (regions_of grid) z k) same first) first') at at'
@@ -156,5 +156,5 @@ pub not_off : (grid : Grid) (cells : Cells) (bias : Bias) → CellsKeep cells �
 not_off grid cells bias keep keeps component taps low high (low', high', range, by_high) is some none = by_cases by_high
   where
     by_cases : ((high' ≡ pos 0) × (taps ≡ [])) ⊎ ((high' ≡ pos 0 → ⊥) × AreTapsOf grid cells component low' high' taps) → ⊥
-    by_cases (inl zero) = some (one_high bias keeps component low high low' high' is range ∙ zero.0)
+    by_cases (inl zero) = some ((one_range bias keeps component low high low' high' is range).1 ∙ zero.0)
     by_cases (inr tapped) = tapped_lacks_none grid cells keep component low' high' taps tapped.1 none

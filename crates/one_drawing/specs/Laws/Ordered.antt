@@ -13,7 +13,7 @@ use Rattle.outside.specs.declared.place.Place.{Place}
 use Rattle.strap_layout.specs.Lines.{LineAt, ComesBefore}
 use Rattle.grid_pieces.specs.declared.piece.Piece.{Piece}
 use Rattle.grid_pieces.specs.declared.touch.Touching.{Touching}
-use Rattle.grid_pieces.specs.Laws.Orders.{then_equal, nat_equal, int_equal}
+use Rattle.grid_pieces.specs.Laws.Orders.{piece_total, then_equal, nat_equal, int_equal}
 use Rattle.grid_pieces.specs.Piece.{piece_order}
 use Rattle.grid_pieces.specs.Touch.{rect_order, touch_order}
 use Rattle.grid_stacks.specs.declared.connect.Site.{Site}
@@ -60,12 +60,6 @@ pub runs_one_way : (a b : Run) → a.from <ℤ b.from → b.from <ℤ a.from →
 runs_one_way a b h k = absurd (omega (arith, ints))
 
 -- ## pieces and sites
-
-piece_total : IsTotalOrder piece_order
-piece_total =
-    then_total
-    (then_total (then_total (then_total (on_total (λ (a : Piece). a.net) nat_cmp_total) (on_total (λ (a : Piece). a.layer) nat_cmp_total)) (on_total (λ (a : Piece). a.centre) int_cmp_total))
-    (on_total (λ (a : Piece). a.from) int_cmp_total)) (on_total (λ (a : Piece). a.width) int_cmp_total)
 
 pub pieces_one_way : (a b : Piece) → is_lt (piece_order a b) ≡ true → is_lt (piece_order b a) ≡ true → ⊥
 pieces_one_way = one_way piece_order piece_total

@@ -1,22 +1,14 @@
 -- A bias file has one list of pads on a grid, and the components have one list of load taps.
-use Rattle.std.proofs.Common.{◌≡◌, ◌⊎◌, inl, inr, ℕ, ◌<◌, ◌≤◌, ℤ, pos, List, [], map, Option, sym, ap, ◌∙◌, subst, arith}
-use Rattle.std.proofs.lemmas.Bool.{false≢true, cases_lt}
+use Rattle.std.proofs.Common.{◌≡◌, ◌⊎◌, inl, inr, ℕ, ◌<◌, ℤ, pos, List, [], sym, ap, ◌∙◌, subst, arith}
 use Rattle.std.proofs.lemmas.Int.{ints}
 use Rattle.std.proofs.lemmas.List.Elements.{All-contains}
-use Rattle.std.proofs.lemmas.Option.{same_Some}
-use Rattle.name_table.specs.Numbering.{AreDistinct}
-use Rattle.geom_rect.specs.declared.direction.Orient.{Orient}
-use Rattle.geom_rect.specs.declared.rect.Rect.{Rect}
 use Rattle.lef_tech.specs.declared.tech.Tech.{Tech}
 use Rattle.lef_cells.specs.declared.record.Cells.{Cells}
-use Rattle.lef_cells.specs.declared.record.MacroCell.{MacroCell}
 use Rattle.lef_cells.specs.Limits.{CellsKeep}
 use Rattle.def_design.specs.declared.record.Component.{Component}
 use Rattle.bias_file.specs.declared.record.Bias.{Bias}
-use Rattle.bias_file.specs.declared.record.Amps.{Amps}
 use Rattle.bias_file.specs.declared.record.PadAt.{PadAt}
 use Rattle.bias_file.specs.Limits.{BiasKeeps}
-use Rattle.grid_cores.specs.Owner.{IsFirstOwner}
 use Rattle.grid_pieces.specs.declared.grid.Grid.{Grid}
 use Rattle.grid_pieces.specs.declared.grid.DomainAt.{DomainAt}
 use Rattle.grid_pieces.specs.declared.piece.Piece.{Piece}
@@ -25,9 +17,10 @@ use Rattle.grid_network.specs.declared.pad.Tap.{Tap}
 use Rattle.grid_taps.specs.declared.column.Column.{Column}
 use Rattle.grid_taps.specs.Pads.{IsPadOn, AreOnPieces, ArePads}
 use Rattle.grid_taps.specs.Rails.{IsNotAbove, IsLowestRail}
-use Rattle.grid_taps.specs.Taps.{IsLine, HasNoLine, IsRange, column_of, IsMacroOf, regions_of, IsOwner, IsPlaced, tap_pair, AreTapsOf, AreTapsFor, AreTaps}
+use Rattle.grid_taps.specs.Taps.{tap_pair, AreTapsOf, AreTapsFor, AreTaps}
 use Rattle.grid_network.specs.Laws.Unique.{same_lists}
-use Rattle.one_network.specs.Laws.Lists.{one_at, one_named, in_order_one}
+use Rattle.grid_taps.specs.Laws.Unique.{one_range, one_place}
+use Rattle.one_network.specs.Laws.Lists.{in_order_one}
 
 -- ## pads
 
@@ -40,61 +33,7 @@ on_pieces_one grid tech bias pad a b p q =
 pub pads_one : (grid : Grid) (tech : Tech) (bias : Bias) (a b : List PadOn) → ArePads grid tech bias a → ArePads grid tech bias b → a ≡ b
 pads_one grid tech bias a b p q = in_order_one (AreOnPieces grid tech bias) (on_pieces_one grid tech bias) bias.pads a b p q
 
--- ## the range of a component
-
-one_line : (lines : List Amps) → AreDistinct (map (λ (a : Amps). a.name) lines) → (name : List ℕ) (low high low' high' : ℤ)
-    → IsLine lines name low high → IsLine lines name low' high' → (low ≡ low') × (high ≡ high')
-one_line lines distinct name low high low' high' (a, in_a, (a_name, a_low, a_high)) (b, in_b, (b_name, b_low, b_high)) =
-    let one = one_named (λ (z : Amps). z.name) lines distinct a b in_a in_b (a_name ∙ sym b_name) in
-    (sym a_low ∙ ap (λ (z : Amps). z.low) one ∙ b_low, sym a_high ∙ ap (λ (z : Amps). z.high) one ∙ b_high)
-
-no_line : (lines : List Amps) (name : List ℕ) (low high : ℤ) → IsLine lines name low high → HasNoLine lines name → ⊥
-no_line lines name low high (a, in_a, (a_name, _, _)) none = none a in_a a_name
-
-pub one_range : (bias : Bias) → BiasKeeps bias → (component : Component) (low high low' high' : ℤ) → IsRange bias component low high
-    → IsRange bias component low' high' → (low ≡ low') × (high ≡ high')
-one_range bias keeps component low high low' high' (inl p) (inl q) = one_line bias.instances keeps.components component.name low high low' high' p q
-one_range bias keeps component low high low' high' (inl p) (inr (inl q)) = absurd (no_line bias.instances component.name low high p q.0)
-one_range bias keeps component low high low' high' (inl p) (inr (inr q)) = absurd (no_line bias.instances component.name low high p q.0)
-one_range bias keeps component low high low' high' (inr (inl p)) (inl q) = absurd (no_line bias.instances component.name low' high' q p.0)
-one_range bias keeps component low high low' high' (inr (inr p)) (inl q) = absurd (no_line bias.instances component.name low' high' q p.0)
-one_range bias keeps component low high low' high' (inr (inl p)) (inr (inl q)) = one_line bias.cells keeps.macros component.cell low high low' high' p.1 q.1
-one_range bias keeps component low high low' high' (inr (inl p)) (inr (inr q)) = absurd (no_line bias.cells component.cell low high p.1 q.1)
-one_range bias keeps component low high low' high' (inr (inr p)) (inr (inl q)) = absurd (no_line bias.cells component.cell low' high' q.1 p.1)
-one_range bias keeps component low high low' high' (inr (inr p)) (inr (inr q)) = (p.2 ∙ sym q.2, p.3 ∙ sym q.3)
-
--- ## its place
-
-one_first : (regions : List (Option Rect)) (place : ℤ × ℤ) (k l : ℕ) → IsFirstOwner regions place k → IsFirstOwner regions place l → k ≡ l
-one_first regions place k l p q = by_order (cases_lt k l) (cases_lt l k)
-  where
-    by_order : (k < l) ⊎ (l ≤ k) → (l < k) ⊎ (k ≤ l) → k ≡ l
-    by_order (inl less) _ = absurd (false≢true (sym (q.first k less) ∙ p.owns))
-    by_order (inr _) (inl less) = absurd (false≢true (sym (p.first l less) ∙ q.owns))
-    by_order (inr le) (inr ge) = omega arith
-
-pub one_owner : (grid : Grid) (place place' : ℤ × ℤ) (domain domain' : DomainAt) → place ≡ place' → IsOwner grid place domain → IsOwner grid place' domain'
-    → domain ≡ domain'
-one_owner grid place place' domain domain' same (k, first, at) (l, first', at') =
-    one_at grid.domains k l domain domain' (one_first (regions_of grid) place' k l (subst (λ (z : ℤ × ℤ). IsFirstOwner (regions_of grid) z k) same first) first') at at'
-
-one_macro : (cells : Cells) → CellsKeep cells → (component : Component) (cell cell' : MacroCell) → IsMacroOf cells component cell
-    → IsMacroOf cells component cell' → cell ≡ cell'
-one_macro cells keep component cell cell' p q = one_named (λ (z : MacroCell). z.name) cells.macros keep.macro_names cell cell' p.0 q.0 (p.1 ∙ sym q.1)
-
-one_place : (grid : Grid) (cells : Cells) → CellsKeep cells → (component : Component) (column column' : Column) (domain domain' : DomainAt)
-    → IsPlaced grid cells component column domain → IsPlaced grid cells component column' domain' → (column ≡ column') × (domain ≡ domain')
-one_place grid cells keep component column column' domain domain' p q =
-    let place : ℤ × ℤ × Orient = (p.x, p.y, p.orient) in
-    let place' : ℤ × ℤ × Orient = (q.x, q.y, q.orient) in
-    let same : place ≡ place' = same_Some place place' (sym p.place ∙ q.place) in
-    let cell : p.cell ≡ q.cell = one_macro cells keep component p.cell q.cell p.is q.is in (
-      p.column_is ∙ ap (λ (z : ℤ × ℤ × Orient). column_of grid.units p.cell z) same ∙ ap (λ (z : MacroCell). column_of grid.units z place') cell
-          ∙ sym q.column_is,
-      one_owner grid (p.x, p.y) (q.x, q.y) domain domain' (ap (λ (z : ℤ × ℤ × Orient). (z.0, z.1)) same) p.owner q.owner,
-    )
-
--- ## its taps
+-- ## the taps of a component
 
 not_above_both : (rail other : Piece) (number place : ℕ) → IsNotAbove rail number other place → IsNotAbove other place rail number → number ≡ place
 not_above_both rail other number place (inl h) (inl k) = absurd (omega (arith, ints, h, k))

@@ -5,7 +5,7 @@ use Rattle.std.proofs.lemmas.List.Sorted.{answers_always}
 use Rattle.grid_pieces.specs.declared.piece.Piece.{Piece}
 use Rattle.grid_pieces.specs.Piece.{piece_order}
 use Rattle.grid_pieces.specs.Laws.Orders.{in_order}
-use Rattle.grid_pieces.proofs.Grouped.{piece_total}
+use Rattle.grid_pieces.specs.Laws.Orders.{piece_total}
 use Rattle.grid_pieces.proofs.cutting.sort.Goals as goal
 
 pub returns-clause-in_order : goal.returns-clause-in_order

@@ -6,7 +6,7 @@ use Rattle.grid_pieces.specs.declared.piece.Piece.{Piece}
 use Rattle.grid_pieces.specs.Laws.Orders.{in_order}
 use Rattle.grid_pieces.specs.Piece.{place_of}
 use Rattle.macro_grid.specs.Drawing.{axis_place, whole_order}
-use Rattle.macro_grid.proofs.Merged.{whole_total}
+use Rattle.macro_grid.specs.Laws.Orders.{whole_total}
 use Rattle.macro_grid.proofs.merging.sort.Goals as goal
 
 pub returns-clause-in_order : goal.returns-clause-in_order

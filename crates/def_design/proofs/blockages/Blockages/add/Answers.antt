@@ -11,6 +11,6 @@ returns-then-self-clause-items c = rect_excepted (map token c.args.unit.now) c.a
 
 pub returns-clause-items : goal.returns-clause-items
 returns-clause-items c =
-    rect_added (map token c.args.unit.now) c.args.self.now (record { «open» = c.args.self.now.open; items = c.push.new.self })
+    rect_added (map token c.args.unit.now) c.args.self.now (record { «open» = c.args.self.now.open; items = c.push-2.new.self })
     (record { layer = c.in_ok-new.field-0; spacing = c.args.self.now.open.spacing; rect = c.in_ok-rect_of.field-0 }) (sym c.begins.ensures ∙ c.if-not-begins.false)
     c.if-self.false c.in_ok-push.ensures.items c.in_ok-new.ensures refl c.in_ok-rect_of.ensures

@@ -6,7 +6,7 @@ use Rattle.macro_blocks.specs.Format.{format}
 use Rattle.macro_blocks.specs.Record.{heard_of}
 use Rattle.macro_blocks.proofs.Showing.{first_shows, second_shows, third_shows, fourth_shows, fifth_shows, sixth_shows, long_shows}
 use Rattle.macro_blocks.proofs.Words.{no_word, one_word, two_words, three_words, four_words, five_words, six_words}
-use Rattle.macro_blocks.proofs.format.BlocksFormatGrammar.fault.Goals as goal
+use Rattle.macro_blocks.proofs.format.shown_by.Goals as goal
 
 pub returns-in-len1 : goal.returns-in-len1
 returns-in-len1 c = λ units h.

@@ -4,6 +4,7 @@ ghost use Rattle.def_writer.specs.Limits.{GridFits};
 ghost use Rattle.lef_tech.specs.Limits.{TechKeeps};
 
 use crate::made::MADE;
+use crate::same::same_at;
 use def_design::{Design, read_design};
 use def_writer::def_text;
 use drawn_grids::drawings_are_grids;
@@ -165,7 +166,7 @@ fn is_used(via: &ViaText, wiring: &Wiring) -> bool {
 /// Compares the pieces of a grid with those that were read.
 fn compare_pieces(rt: &(impl Abort + AllocGlobal), tech: &Tech, grid: &Grid, wires: &[WireText]) {
     let pieces = grid.pieces.as_slice();
-    assert_eq!(rt; wires.len(), pieces.len());
+    assert!(rt; wires.len() == pieces.len());
     for (piece, wire) in pieces.iter().zip(wires.iter()) {
         assert!(rt;
             is_piece(tech, grid, piece, wire),
@@ -203,7 +204,7 @@ fn compare_stacks(
             let same = is_place(tech, grid, stack, layer, name.as_bytes(), place);
             assert!(rt; same, "an array is read as another");
             let vias = vias_of(tech, array, name.as_bytes(), wiring);
-            assert_eq!(rt; vias, (1, true), "the via of an array");
+            same_at(rt, vias, (1, true), "the via of an array");
         }
     }
     assert!(rt; places.next().is_none(), "an array too many");
@@ -271,7 +272,7 @@ fn small_grids(rt: HostRuntime) -> Result<(), Fail> {
         let vias = wiring.vias.as_slice().len();
         let wires = wiring.wires.as_slice().len();
         let places = wiring.places.as_slice().len();
-        assert_eq!(rt; (nets, vias, wires, places), counts, "of {pdn}");
+        same_at(&rt, (nets, vias, wires, places), counts, pdn);
     }
     Ok(())
 }

@@ -1,5 +1,6 @@
 ghost use Rattle.grid_cores.specs.Line.{LineKeeps};
 
+use crate::same::same;
 use geom_rect::{Axis, Drawn, Rect, Run, Shape};
 use grid_cores::*;
 use rail_layout::RowBox;
@@ -39,22 +40,22 @@ fn rows_of_two_domains(rt: HostRuntime) -> Result<(), Fail> {
     let regions = [None, Some(AON)];
     let first = rows_of(rt.alloc(), &regions, None, &rows())?;
     let second = rows_of(rt.alloc(), &regions, Some(AON), &rows())?;
-    assert_eq!(rt; first.as_slice(), [row(0), row(11200)].as_slice());
-    assert_eq!(rt; second.as_slice(), [row(5600)].as_slice());
-    assert_eq!(rt; core_of(&first), Some(rect(0, 0, 8000, 14000)));
-    assert_eq!(rt; core_of(&second), Some(AON));
-    assert_eq!(rt; core_of(&[]), None);
+    same(&rt, first.as_slice(), [row(0), row(11200)].as_slice());
+    same(&rt, second.as_slice(), [row(5600)].as_slice());
+    same(&rt, core_of(&first), Some(rect(0, 0, 8000, 14000)));
+    same(&rt, core_of(&second), Some(AON));
+    same(&rt, core_of(&[]), None);
     Ok(())
 }
 
 #[test]
 fn owners_of_places(rt: HostRuntime) {
     let regions = [None, Some(AON)];
-    assert_eq!(rt; domain_at(&regions, 0, 5600), Some(1));
-    assert_eq!(rt; domain_at(&regions, 7999, 8399), Some(1));
-    assert_eq!(rt; domain_at(&regions, 8000, 5600), Some(0));
-    assert_eq!(rt; domain_at(&regions, 0, 8400), Some(0));
-    assert_eq!(rt; domain_at(&[Some(AON)], 0, 8400), None);
+    same(&rt, domain_at(&regions, 0, 5600), Some(1));
+    same(&rt, domain_at(&regions, 7999, 8399), Some(1));
+    same(&rt, domain_at(&regions, 8000, 5600), Some(0));
+    same(&rt, domain_at(&regions, 0, 8400), Some(0));
+    same(&rt, domain_at(&[Some(AON)], 0, 8400), None);
 }
 
 #[test]
@@ -90,15 +91,16 @@ fn reach_of_straps(rt: HostRuntime) {
         y2: 14000,
     };
     let upright = strap_reach(Axis::Y, 340, core);
-    assert_eq!(rt;
+    same(
+        &rt,
         upright,
         Run {
             from: -170,
-            to: 14170
-        }
+            to: 14170,
+        },
     );
     let flat = strap_reach(Axis::X, 340, core);
-    assert_eq!(rt; flat, Run { from: 0, to: 8000 });
+    same(&rt, flat, Run { from: 0, to: 8000 });
 }
 
 #[test]
@@ -108,6 +110,6 @@ fn runs_outside_a_region(rt: HostRuntime) -> Result<(), Fail> {
     let mut shapes = Vec::new(rt.alloc());
     add_runs(rt.alloc(), &mut shapes, &lines, &regions)?;
     let left = [strap(-170, 5150), strap(8850, 14170)];
-    assert_eq!(rt; shapes.as_slice(), left.as_slice());
+    same(&rt, shapes.as_slice(), left.as_slice());
     Ok(())
 }

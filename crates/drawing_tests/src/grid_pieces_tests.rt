@@ -3,6 +3,7 @@ ghost use Rattle.std.specs.Prelude.{◌≡◌, ◌↔◌, All, IfOk, IsTrue};
 ghost use Rattle.grid_pieces.specs.Limits.{DrawnKeeps, OneAxis};
 
 use crate::kept::{in_order, keeping, stack};
+use crate::same::{same, same_at};
 use geom_rect::{Axis, Drawn, Rect, Shape, meets};
 use grid_pieces::*;
 use lef_tech::LayerRef;
@@ -125,24 +126,26 @@ fn straps_cut_by_blockages(rt: HostRuntime) -> Result<(), Fail> {
         grown: rect(0, 0, 8000, 2800),
     };
     let none = pieces_along(rt.alloc(), Axis::Y, &shapes, &[])?;
-    assert_eq!(rt; none.as_slice(), [ground, power].as_slice());
+    same(&rt, none.as_slice(), [ground, power].as_slice());
     let one = pieces_along(rt.alloc(), Axis::Y, &shapes, &[across_power])?;
-    assert_eq!(rt;
+    same(
+        &rt,
         one.as_slice(),
         [
             ground,
             piece(strap(1, 6000), -170, 1020),
-            piece(strap(1, 6000), 1780, 2970)
+            piece(strap(1, 6000), 1780, 2970),
         ]
-        .as_slice()
+        .as_slice(),
     );
     let end = pieces_along(rt.alloc(), Axis::Y, &shapes, &[at_ground])?;
-    assert_eq!(rt;
+    same(
+        &rt,
         end.as_slice(),
-        [piece(strap(0, 2000), 330, 2970), power].as_slice()
+        [piece(strap(0, 2000), 330, 2970), power].as_slice(),
     );
     let passed = pieces_along(rt.alloc(), Axis::Y, &shapes, &[beside, other, cut])?;
-    assert_eq!(rt; passed.as_slice(), [ground, power].as_slice());
+    same(&rt, passed.as_slice(), [ground, power].as_slice());
     Ok(())
 }
 
@@ -150,18 +153,20 @@ fn straps_cut_by_blockages(rt: HostRuntime) -> Result<(), Fail> {
 fn rails_share_an_edge(rt: HostRuntime) -> Result<(), Fail> {
     let turned = [rail(0, 0), rail(1, 2800), rail(1, 2800), rail(0, 5600)];
     let kept = pieces_along(rt.alloc(), Axis::X, &turned, &[])?;
-    assert_eq!(rt;
+    same(
+        &rt,
         kept.as_slice(),
         [
             piece(rail(0, 0), 0, 8000),
             piece(rail(0, 5600), 0, 8000),
-            piece(rail(1, 2800), 0, 8000)
+            piece(rail(1, 2800), 0, 8000),
         ]
-        .as_slice()
+        .as_slice(),
     );
-    assert_eq!(rt;
+    same(
+        &rt,
         first_touch(rt.alloc(), &keeping(rt.alloc(), &kept)?, &[])?,
-        None
+        None,
     );
     let alike = [rail(0, 0), rail(1, 2800), rail(0, 2800), rail(1, 5600)];
     let kept = pieces_along(rt.alloc(), Axis::X, &alike, &[])?;
@@ -172,9 +177,10 @@ fn rails_share_an_edge(rt: HostRuntime) -> Result<(), Fail> {
         second: shared,
         same: false,
     };
-    assert_eq!(rt;
+    same(
+        &rt,
         first_touch(rt.alloc(), &keeping(rt.alloc(), &kept)?, &[])?,
-        Some(touching)
+        Some(touching),
     );
     Ok(())
 }
@@ -207,7 +213,7 @@ fn the_first_kind_of_a_piece(rt: HostRuntime) -> Result<(), Fail> {
         shape: Shape::Ring,
         ..piece(stripe, 0, 13000)
     };
-    assert_eq!(rt; whole.as_slice(), [one].as_slice());
+    same(&rt, whole.as_slice(), [one].as_slice());
     let block = blocked(0, rect(0, 0, 0, 0), rect(1000, -500, 2000, 500));
     let last = blocked(0, rect(0, 0, 0, 0), rect(9000, 160, 12000, 500));
     let parts = pieces_along(rt.alloc(), Axis::X, &shapes, &[block, last])?;
@@ -220,7 +226,7 @@ fn the_first_kind_of_a_piece(rt: HostRuntime) -> Result<(), Fail> {
         shape: Shape::Ring,
         ..piece(stripe, 12000, 13000)
     };
-    assert_eq!(rt; parts.as_slice(), [rail, middle, ring].as_slice());
+    same(&rt, parts.as_slice(), [rail, middle, ring].as_slice());
     Ok(())
 }
 
@@ -261,7 +267,7 @@ fn stacks_touch_strictly_inside(rt: HostRuntime) -> Result<(), Fail> {
     for (name, layer, r, want) in cases {
         let pieces = flat(rt.alloc(), &[(0, layer, r)])?;
         let found = touch_of_two(rt.alloc(), &pieces, one, apart)?.map(|t| (t.first, t.second));
-        assert_eq!(rt; found, want, "{name}");
+        same_at(&rt, found, want, name);
     }
     let corner = rect(10, 10, 20, 20);
     let between = Touching {
@@ -270,9 +276,10 @@ fn stacks_touch_strictly_inside(rt: HostRuntime) -> Result<(), Fail> {
         second: corner,
         same: false,
     };
-    assert_eq!(rt;
+    same(
+        &rt,
         touch_of_two(rt.alloc(), &[], one, (1, 2, 4, corner))?,
-        Some(between)
+        Some(between),
     );
     Ok(())
 }
@@ -344,7 +351,7 @@ fn the_same_as_by_all_pairs(rt: HostRuntime) -> Result<(), Fail> {
         let found = first_touch(rt.alloc(), &keeping(rt.alloc(), &pieces)?, &[])?.map(|t| (
             t.layer, t.first, t.second, t.same,
         ));
-        assert_eq!(rt; found, by_all_pairs(&pieces), "round {round}");
+        same_at(&rt, found, by_all_pairs(&pieces), ("round", round));
         if found.is_some() {
             touches = touches.wrapping_add(1);
         }
@@ -370,9 +377,10 @@ fn a_million_pieces_apart(rt: HostRuntime) -> Result<(), Fail> {
         })?;
         centre = centre.wrapping_add(1000);
     }
-    assert_eq!(rt;
+    same(
+        &rt,
         first_touch(rt.alloc(), &keeping(rt.alloc(), &pieces)?, &[])?,
-        None
+        None,
     );
     Ok(())
 }
@@ -410,9 +418,10 @@ fn a_million_long_pieces(rt: HostRuntime) -> Result<(), Fail> {
         second: rect(1_000_000_000, 200, 1_000_000_001, 600),
         same: false,
     };
-    assert_eq!(rt;
+    same(
+        &rt,
         first_touch(rt.alloc(), &keeping(rt.alloc(), &pieces)?, &[])?,
-        Some(touching)
+        Some(touching),
     );
     Ok(())
 }
@@ -437,8 +446,8 @@ fn a_million_lines_and_blockages(rt: HostRuntime) -> Result<(), Fail> {
         centre = centre.wrapping_add(1000);
     }
     let kept = pieces_along(rt.alloc(), Axis::X, &shapes, &blocks)?;
-    assert_eq!(rt; kept.len(), 2_000_000);
+    assert!(rt; kept.len() == 2_000_000);
     let ends = kept.last().map(|piece| (piece.from, piece.to));
-    assert_eq!(rt; ends, Some((500, 900)));
+    same(&rt, ends, Some((500, 900)));
     Ok(())
 }

@@ -61,9 +61,9 @@ fn two_rails_and_two_straps(rt: HostRuntime) -> Result<(), Fail> {
     let Ok(grid) = drawn(&rt, rt.alloc(), PDN) else {
         panic!(rt; "the drawing is refused");
     };
-    assert_eq!(rt; grid.pieces.as_slice().len(), 4);
-    assert_eq!(rt; grid.stacks.as_slice().len(), 2);
-    assert_eq!(rt; grid.nets.as_slice().len(), 2);
+    assert!(rt; grid.pieces.as_slice().len() == 4);
+    assert!(rt; grid.stacks.as_slice().len() == 2);
+    assert!(rt; grid.nets.as_slice().len() == 2);
     Ok(())
 }
 

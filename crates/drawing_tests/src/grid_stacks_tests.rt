@@ -2,6 +2,7 @@
 ghost use Rattle.lef_tech.specs.Limits.{TechKeeps};
 
 use crate::fitting::{TECH, connect_keeps, fitting, same_axis};
+use crate::same::{same, same_at};
 use geom_rect::{Axis, Rect, Shape};
 use grid_pieces::{Block, Counted, DrawError, Piece, StackAt};
 use grid_stacks::{Connect, stacks};
@@ -137,12 +138,12 @@ fn stacks_of_the_small_design(rt: HostRuntime) -> Result<(), Fail> {
     for (what, block, want) in cases {
         match stacks_of(alloc, &tech, &pieces, &[block]) {
             Ok(found) => {
-                assert_eq!(rt; places_of(alloc, &found)?.as_slice(), want, "{what}");
+                same_at(&rt, places_of(alloc, &found)?.as_slice(), want, what);
                 for at in &found {
                     let arrays = at.stack.arrays.as_slice();
-                    assert_eq!(rt; arrays.len(), 3, "{what}");
+                    same_at(&rt, arrays.len(), 3, what);
                     let count = arrays.first().map(|array| (array.columns, array.rows));
-                    assert_eq!(rt; count, Some((3, 1)), "{what}");
+                    same_at(&rt, count, Some((3, 1)), what);
                 }
             }
             Err(_) => assert!(rt; false, "{what}"),
@@ -180,7 +181,7 @@ fn crossings_at_their_edges(rt: HostRuntime) -> Result<(), Fail> {
             ..strap(0, 2000)
         };
         match stacks_of(alloc, &tech, &[flat, upright], &[]) {
-            Ok(found) => assert_eq!(rt; !found.is_empty(), want, "{from} {to} {low} {high}"),
+            Ok(found) => same_at(&rt, !found.is_empty(), want, (from, to, low, high)),
             Err(_) => assert!(rt; false, "{from} {to} {low} {high}"),
         }
     }
@@ -211,12 +212,12 @@ fn refusals_in_their_order(rt: HostRuntime) -> Result<(), Fail> {
     ];
     match stacks_of(alloc, &tech, &first, &[]) {
         Err(DrawError::Stack(error, x, y)) => {
-            assert_eq!(rt; (error, x, y), (StackError::NoCutFits(0), 6000, 2800));
+            same(&rt, (error, x, y), (StackError::NoCutFits(0), 6000, 2800));
         }
         _ => assert!(rt; false, "no cut fits"),
     }
     match stacks_of(alloc, &tech, &[first[0], first[1], on_metal5], &[]) {
-        Err(DrawError::NoSheet(layer)) => assert_eq!(rt; layer, 4),
+        Err(DrawError::NoSheet(layer)) => same(&rt, layer, 4),
         _ => assert!(rt; false, "a layer has no sheet resistance"),
     }
     Ok(())
@@ -318,10 +319,11 @@ fn small_grids_as_by_all_pairs(rt: HostRuntime) -> Result<(), Fail> {
             Ok(found) => {
                 total = total.wrapping_add(found.len());
                 let found = places_of(alloc, &found)?;
-                assert_eq!(rt;
+                same_at(
+                    &rt,
                     found,
                     by_all_pairs(alloc, &pieces, &blocks)?,
-                    "round {round}"
+                    ("round", round),
                 );
             }
             Err(_) => assert!(rt; false, "round {round}"),
@@ -358,7 +360,7 @@ fn half_a_million_by_half_a_million(rt: HostRuntime) -> Result<(), Fail> {
     row(&mut pieces, span(rail(0, 0)), 500_000)?;
     row(&mut pieces, span(strap(0, 1_000_000_000)), 500_000)?;
     match stacks_of(alloc, &tech, &pieces, &[]) {
-        Ok(found) => assert_eq!(rt; found.len(), 0),
+        Ok(found) => assert!(rt; found.len() == 0),
         Err(_) => assert!(rt; false, "no stack is refused"),
     }
     Ok(())
@@ -380,7 +382,7 @@ fn more_than_a_million_stacks(rt: HostRuntime) -> Result<(), Fail> {
     row(&mut pieces, long(rail(0, 0)), 1001)?;
     row(&mut pieces, long(strap(0, 10_000_000)), 1000)?;
     match stacks_of(alloc, &tech, &pieces, &[]) {
-        Err(DrawError::TooMany(counted)) => assert_eq!(rt; counted, Counted::Stacks),
+        Err(DrawError::TooMany(counted)) => same(&rt, counted, Counted::Stacks),
         _ => assert!(rt; false, "too many stacks stand"),
     }
     Ok(())

@@ -30,6 +30,8 @@ mod ring_layout_tests;
 #[cfg(test)]
 mod run_index_tests;
 #[cfg(test)]
+mod same;
+#[cfg(test)]
 mod small_design_tests;
 #[cfg(test)]
 mod strap_layout_tests;

@@ -3,6 +3,7 @@ ghost use Rattle.lef_tech.specs.Limits.{TechKeeps};
 
 use crate::fitting::{TECH, connect_keeps, fitting};
 use crate::kept::next;
+use crate::same::same_at;
 use geom_rect::{Axis, Rect, Shape};
 use grid_pieces::{Block, DrawError, Piece, StackAt};
 use grid_stacks::{Connect, Site, stacks};
@@ -125,8 +126,13 @@ fn a_hundred_drawings_of_stacks(rt: HostRuntime) -> Result<(), Fail> {
             places_of(alloc, &tech, &pieces, &[block]),
         ) {
             (Ok(free), Ok(blocked)) => {
-                assert_eq!(rt; free.0.as_slice(), free.1.as_slice(), "round {round}");
-                assert_eq!(rt; blocked.0.as_slice(), blocked.1.as_slice(), "round {round}");
+                same_at(&rt, free.0.as_slice(), free.1.as_slice(), ("round", round));
+                same_at(
+                    &rt,
+                    blocked.0.as_slice(),
+                    blocked.1.as_slice(),
+                    ("round", round),
+                );
                 if !free.0.is_empty() {
                     standing = standing.wrapping_add(1);
                 }

@@ -1,5 +1,6 @@
 //! A hundred drawings that are made up: their first touch by the sweep of `grid_pieces` and by all pairs.
 use crate::kept::{in_order, keeping, next, stack};
+use crate::same::same_at;
 use geom_rect::{Axis, Rect, Shape};
 use grid_pieces::{Piece, Touching, first_touch};
 use plain_drawing::first_touch_by_pairs;
@@ -81,7 +82,7 @@ fn a_hundred_drawings(rt: HostRuntime) -> Result<(), Fail> {
         state = next(state);
         let other = made_stack(state);
         let (swept, paired) = touches_of(rt.alloc(), &pieces, one, other)?;
-        assert_eq!(rt; swept, paired, "round {round}");
+        same_at(&rt, swept, paired, ("round", round));
         if swept.is_some() {
             touching = touching.wrapping_add(1);
         }

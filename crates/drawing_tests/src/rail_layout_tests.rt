@@ -1,3 +1,4 @@
+use crate::same::same_at;
 use geom_rect::{Axis, Drawn, Rect, Run, Shape};
 use rail_layout::*;
 use std::test::Fail;
@@ -78,7 +79,7 @@ fn rails_of_rows(rt: HostRuntime) -> Result<(), Fail> {
     ];
     for (name, rule, rows, want) in cases {
         let drawn = rails(rt.alloc(), &rule, rows)?;
-        assert_eq!(rt; drawn.as_slice(), want, "{name}");
+        same_at(&rt, drawn.as_slice(), want, name);
     }
     Ok(())
 }

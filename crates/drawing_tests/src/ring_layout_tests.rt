@@ -1,6 +1,7 @@
 ghost use Rattle.std.specs.Prelude.{◌≡◌};
 ghost use Rattle.ring_layout.specs.declared.rule.RingRule.{RingRule};
 
+use crate::same::same;
 use entry_list::Entries;
 use geom_rect::{Axis, Drawn, Rect, Shape};
 use ring_layout::*;
@@ -75,7 +76,7 @@ fn ring_sides(rt: HostRuntime) -> Result<(), Fail> {
         side(4, Axis::Y, 4000, 214_000, -16_000, 216_000),
         side(4, Axis::X, 4000, 214_000, -16_000, 216_000),
     ];
-    assert_eq!(rt; drawn.as_slice(), want.as_slice());
+    same(&rt, drawn.as_slice(), want.as_slice());
     Ok(())
 }
 
@@ -90,9 +91,9 @@ fn a_ring_of_the_small_core(rt: HostRuntime) -> Result<(), Fail> {
         y2: 2800,
     };
     let drawn = rings(rt.alloc(), &rule, core)?;
-    assert_eq!(rt; drawn.len(), 8);
-    assert_eq!(rt; drawn[0], side(0, Axis::Y, 2000, -3000, -4000, 6800));
-    assert_eq!(rt; drawn[7], side(1, Axis::X, 2000, 9800, -8000, 16_000));
+    assert!(rt; drawn.len() == 8);
+    same(&rt, drawn[0], side(0, Axis::Y, 2000, -3000, -4000, 6800));
+    same(&rt, drawn[7], side(1, Axis::X, 2000, 9800, -8000, 16_000));
     Ok(())
 }
 
@@ -125,6 +126,6 @@ fn a_ring_of_unequal_lengths(rt: HostRuntime) -> Result<(), Fail> {
         side(0, Axis::Y, 200, 7100, -63, 2865),
         side(0, Axis::X, 60, 2835, -210, 7200),
     ];
-    assert_eq!(rt; drawn.as_slice(), want.as_slice());
+    same(&rt, drawn.as_slice(), want.as_slice());
     Ok(())
 }

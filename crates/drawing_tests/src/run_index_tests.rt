@@ -1,3 +1,4 @@
+use crate::same::{same, same_at};
 use geom_rect::Run;
 use run_index::*;
 use std::test::Fail;
@@ -43,7 +44,7 @@ fn entries_at_the_edges_of_a_window(rt: HostRuntime) -> Result<(), Fail> {
         places.sort()?;
         let mut want = want.to_vec(rt.alloc())?;
         want.sort()?;
-        assert_eq!(rt; places, want, "{group}");
+        same_at(&rt, places, want, group);
     }
     Ok(())
 }
@@ -87,7 +88,7 @@ fn many_entries_as_by_a_look_at_all(rt: HostRuntime) -> Result<(), Fail> {
         let found = index.found(rt.alloc(), group, window)?;
         let mut places: Vec<i64> = found.iter().map(|run| run.from).collect(rt.alloc())?;
         places.sort()?;
-        assert_eq!(rt; places, want, "from {from}");
+        same_at(&rt, places, want, from);
     }
     Ok(())
 }
@@ -107,6 +108,6 @@ fn a_million_entries_and_windows(rt: HostRuntime) -> Result<(), Fail> {
         let found = index.found(rt.alloc(), 0, run(from, from.wrapping_add(5)))?;
         count = count.wrapping_add(found.len());
     }
-    assert_eq!(rt; count, 2_000_000);
+    same(&rt, count, 2_000_000);
     Ok(())
 }

@@ -2,6 +2,7 @@
 ghost use Rattle.std.specs.Prelude.{IfOk};
 ghost use Rattle.drawing_tests.specs.inside.Written.{IsSmallStack, IsSmallGrid};
 
+use crate::same::same;
 use def_design::read_design;
 use def_writer::def_text;
 use entry_list::Entries;
@@ -154,7 +155,7 @@ fn small_design_as_def(rt: HostRuntime) -> Result<(), Fail> {
     assert!(rt; 4 <= tech.routing.as_slice().len());
     assert!(rt; 3 <= tech.rules.as_slice().len());
     let text = def_text(rt.alloc(), &design, &tech, &grid)?;
-    assert_eq!(rt; text.as_slice(), WRITTEN);
+    same(&rt, text.as_slice(), WRITTEN);
     Ok(())
 }
 
@@ -167,21 +168,22 @@ fn small_design_read_back(rt: HostRuntime) -> Result<(), Fail> {
     assert!(rt; 3 <= tech.rules.as_slice().len());
     let text = def_text(rt.alloc(), &design, &tech, &grid)?;
     let wiring = read_wiring(rt.alloc(), text.as_slice())?;
-    assert_eq!(rt; wiring.vias.as_slice().len(), 3);
-    assert_eq!(rt; wiring.wires.as_slice().len(), 4);
-    assert_eq!(rt; wiring.places.as_slice().len(), 6);
+    assert!(rt; wiring.vias.as_slice().len() == 3);
+    assert!(rt; wiring.wires.as_slice().len() == 4);
+    assert!(rt; wiring.places.as_slice().len() == 6);
     let via = &wiring.vias.as_slice()[1];
-    assert_eq!(rt; via.name.bytes(), b"pdn_2_3_1".as_slice());
-    assert_eq!(rt; (via.rows, via.columns), (1, 3));
+    same(&rt, via.name.bytes(), b"pdn_2_3_1".as_slice());
+    same(&rt, (via.rows, via.columns), (1, 3));
     let wire = &wiring.wires.as_slice()[3];
-    assert_eq!(rt; wire.net.bytes(), b"VSS".as_slice());
-    assert_eq!(rt;
+    same(&rt, wire.net.bytes(), b"VSS".as_slice());
+    same(
+        &rt,
         (wire.x1, wire.y1, wire.x2, wire.y2),
-        (2000, -170, 2000, 2970)
+        (2000, -170, 2000, 2970),
     );
     let place = &wiring.places.as_slice()[2];
-    assert_eq!(rt; place.layer.bytes(), b"metal3".as_slice());
-    assert_eq!(rt; place.via.bytes(), b"pdn_3_3_1".as_slice());
-    assert_eq!(rt; (place.x, place.y), (6000, 2800));
+    same(&rt, place.layer.bytes(), b"metal3".as_slice());
+    same(&rt, place.via.bytes(), b"pdn_3_3_1".as_slice());
+    same(&rt, (place.x, place.y), (6000, 2800));
     Ok(())
 }

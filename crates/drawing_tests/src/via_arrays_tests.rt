@@ -6,6 +6,7 @@ ghost use Rattle.geom_rect.specs.Rect.{IsInOrder, HasCoordinates};
 ghost use Rattle.via_arrays.specs.inside.Lengths.{RuleLengths};
 ghost use Rattle.drawing_tests.specs.inside.Arrays.{RuleFits, tested_order, AreLayers, AreCuts, AreRules, IsTested};
 
+use crate::same::{same, same_at};
 use entry_list::Entries;
 use geom_rect::{Axis, Rect};
 use lef_tech::{
@@ -287,21 +288,23 @@ fn three_arrays_or_no_cut(rt: HostRuntime) -> Result<(), Fail> {
     };
     match stack(alloc, &tech, 0, 3, crossing(960, 340), 2000, 9, 9) {
         Ok(stack) => {
-            assert_eq!(rt; (stack.from, stack.to), (0, 3));
-            assert_eq!(rt;
+            same(&rt, (stack.from, stack.to), (0, 3));
+            same(
+                &rt,
                 stack.arrays.as_slice(),
-                [horizontal_first, vertical_first, last].as_slice()
+                [horizontal_first, vertical_first, last].as_slice(),
             );
-            assert_eq!(rt;
+            same(
+                &rt,
                 stack.ohms.as_slice(),
-                [1_666_666_667u64, 1_666_666_667, 1_666_666_667].as_slice()
+                [1_666_666_667u64, 1_666_666_667, 1_666_666_667].as_slice(),
             );
         }
-        Err(error) => assert_eq!(rt; error, StackError::Want, "it is a stack"),
+        Err(error) => same_at(&rt, error, StackError::Want, "it is a stack"),
     }
     for from in 0..3 {
         match stack(alloc, &tech, from, 3, crossing(960, 200), 2000, 9, 9) {
-            Err(error) => assert_eq!(rt; error, StackError::NoCutFits(from)),
+            Err(error) => same(&rt, error, StackError::NoCutFits(from)),
             Ok(_) => assert!(rt; false, "not a single cut fits"),
         }
     }
@@ -351,13 +354,9 @@ fn columns_and_rows_that_fit(rt: HostRuntime) -> Result<(), Fail> {
                     upper_x: 20,
                     upper_y: 50,
                 };
-                assert_eq!(rt; array, whole, "at {width} by {height}");
+                same_at(&rt, array, whole, (width, height));
             }
-            (Err(error), None) => assert_eq!(rt;
-                error,
-                ArrayError::NoCutFits,
-                "at {width} by {height}"
-            ),
+            (Err(error), None) => same_at(&rt, error, ArrayError::NoCutFits, (width, height)),
             _ => assert!(rt; false, "at {width} by {height}"),
         }
     }
@@ -435,7 +434,7 @@ fn lengths_off_the_grid(rt: HostRuntime) -> Result<(), Fail> {
             (0, 2000, Err(ArrayError::NoCutFits)),
         ] {
             let got = array(&tech, 1, crossing(width, 2000), units, 9, 9);
-            assert_eq!(rt; got.map(|_| ()), want, "length {place} at {units} units");
+            same_at(&rt, got.map(|_| ()), want, (place, units));
         }
     }
     Ok(())
@@ -477,11 +476,7 @@ fn first_rule_that_suits(rt: HostRuntime) -> Result<(), Fail> {
     for (lower, upper, width, height, want) in cases {
         assert!(rt; lower < 4 && upper < 4);
         let got = choose_rule(&tech, lower, upper, crossing(width, height), 1000);
-        assert_eq!(rt;
-            got,
-            want,
-            "layers {lower} and {upper} at {width} by {height}"
-        );
+        same_at(&rt, got, want, (lower, upper, width, height));
     }
     Ok(())
 }
@@ -498,7 +493,7 @@ fn range_that_falls_fits_nothing(rt: HostRuntime) -> Result<(), Fail> {
     };
     for width in [299, 300, 350, 400, 401] {
         let got = choose_rule(&tech, 0, 1, crossing(width, 300), 1000);
-        assert_eq!(rt; got, Some(1), "at a width of {width}");
+        same_at(&rt, got, Some(1), ("at a width of", width));
     }
     Ok(())
 }
@@ -569,7 +564,7 @@ fn first_fault_upwards(rt: HostRuntime) -> Result<(), Fail> {
             return Ok(());
         };
         match ohms(rt.alloc(), &tech, 3, crossing(side, side))? {
-            Err(error) => assert_eq!(rt; error, want),
+            Err(error) => same(&rt, error, want),
             Ok(_) => assert!(rt; false, "a stack stands"),
         }
     }
@@ -601,7 +596,7 @@ fn resistance_of_a_rule_goes_first(rt: HostRuntime) -> Result<(), Fail> {
             return Ok(());
         };
         match ohms(rt.alloc(), &tech, 2, crossing(side, side))? {
-            Ok(got) => assert_eq!(rt; got.as_slice(), want.as_slice(), "at {side}"),
+            Ok(got) => same_at(&rt, got.as_slice(), want.as_slice(), side),
             Err(_) => assert!(rt; false, "at {side}"),
         }
     }
@@ -631,6 +626,6 @@ fn resistance_of_a_wire(rt: HostRuntime) {
         (u128::MAX, 2, 1 << 127),
     ] {
         assert!(rt; 0 < width);
-        assert_eq!(rt; resistance(total, width), want, "{total} over {width}");
+        same_at(&rt, resistance(total, width), want, (total, width));
     }
 }

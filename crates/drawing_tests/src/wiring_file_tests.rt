@@ -1,4 +1,5 @@
 //! The wiring of the small design, and texts of other forms, whose refusals were worked out from the form.
+use crate::same::{same, same_at};
 use WiringKind::{BadString, Number, Syntax};
 use fixed_decimal::DecimalError::{NotNumber, Range};
 use outside::Place;
@@ -10,27 +11,29 @@ use wiring_file::*;
 #[test]
 fn small_design_read_back(rt: HostRuntime) -> Result<(), Fail> {
     let wiring = read_wiring(rt.alloc(), WRITTEN)?;
-    assert_eq!(rt; wiring.vias.as_slice().len(), 3);
-    assert_eq!(rt; wiring.wires.as_slice().len(), 4);
-    assert_eq!(rt; wiring.places.as_slice().len(), 6);
+    assert!(rt; wiring.vias.as_slice().len() == 3);
+    assert!(rt; wiring.wires.as_slice().len() == 4);
+    assert!(rt; wiring.places.as_slice().len() == 6);
     let via = &wiring.vias.as_slice()[1];
-    assert_eq!(rt; via.name.bytes(), b"pdn_2_3_1".as_slice());
-    assert_eq!(rt; via.upper.bytes(), b"metal3".as_slice());
-    assert_eq!(rt;
+    same(&rt, via.name.bytes(), b"pdn_2_3_1".as_slice());
+    same(&rt, via.upper.bytes(), b"metal3".as_slice());
+    same(
+        &rt,
         (via.lower_x, via.lower_y, via.upper_x, via.upper_y),
-        (0, 70, 70, 0)
+        (0, 70, 70, 0),
     );
-    assert_eq!(rt; (via.rows, via.columns), (1, 3));
+    same(&rt, (via.rows, via.columns), (1, 3));
     let wire = &wiring.wires.as_slice()[3];
-    assert_eq!(rt; wire.net.bytes(), b"VSS".as_slice());
-    assert_eq!(rt;
+    same(&rt, wire.net.bytes(), b"VSS".as_slice());
+    same(
+        &rt,
         (wire.x1, wire.y1, wire.x2, wire.y2),
-        (2000, -170, 2000, 2970)
+        (2000, -170, 2000, 2970),
     );
     let place = &wiring.places.as_slice()[2];
-    assert_eq!(rt; place.net.bytes(), b"VDD".as_slice());
-    assert_eq!(rt; (place.x, place.y), (6000, 2800));
-    assert_eq!(rt; place.via.bytes(), b"pdn_3_3_1".as_slice());
+    same(&rt, place.net.bytes(), b"VDD".as_slice());
+    same(&rt, (place.x, place.y), (6000, 2800));
+    same(&rt, place.via.bytes(), b"pdn_3_3_1".as_slice());
     Ok(())
 }
 
@@ -39,7 +42,7 @@ fn half_of_the_small_design(rt: HostRuntime) {
     let half = WRITTEN.len() / 2;
     match read_wiring(rt.alloc(), &WRITTEN[..half]) {
         Ok(_) => assert!(rt; false, "the half is no wiring"),
-        Err(error) => assert_eq!(rt; error.kind, Syntax),
+        Err(error) => same(&rt, error.kind, Syntax),
     }
 }
 
@@ -88,9 +91,9 @@ fn texts_that_are_read(rt: HostRuntime) -> Result<(), Fail> {
     for (rest, vias, wires, places) in READ {
         let text = text_of(rt.alloc(), rest)?;
         let wiring = read_wiring(rt.alloc(), text.as_bytes())?;
-        assert_eq!(rt; wiring.vias.as_slice().len(), vias, "in {rest}");
-        assert_eq!(rt; wiring.wires.as_slice().len(), wires, "in {rest}");
-        assert_eq!(rt; wiring.places.as_slice().len(), places, "in {rest}");
+        same_at(&rt, wiring.vias.as_slice().len(), vias, rest);
+        same_at(&rt, wiring.wires.as_slice().len(), wires, rest);
+        same_at(&rt, wiring.places.as_slice().len(), places, rest);
     }
     Ok(())
 }
@@ -147,8 +150,8 @@ fn texts_that_are_refused(rt: HostRuntime) -> Result<(), Fail> {
         match read_wiring(rt.alloc(), text.as_bytes()) {
             Ok(_) => assert!(rt; false, "{rest} is read"),
             Err(error) => {
-                assert_eq!(rt; error.kind, kind, "in {rest}");
-                assert_eq!(rt; error.place, Place { line: 2, word }, "in {rest}");
+                same_at(&rt, error.kind, kind, rest);
+                same_at(&rt, error.place, Place { line: 2, word }, rest);
             }
         }
     }

@@ -2,6 +2,7 @@ ghost use Rattle.std.specs.Prelude.{◌≢◌, ◌<◌, ℕ, List, IsTrue, lengt
 ghost use Rattle.name_table.specs.Numbering.{AreDistinct};
 ghost use Rattle.grid_extract.specs.Extraction.{GridKeeps};
 
+use crate::same::same;
 use bias_file::read_bias;
 use def_design::read_design;
 use entry_list::Entries;
@@ -207,18 +208,19 @@ fn small_design(rt: HostRuntime) -> Result<(), Fail> {
         return Ok(());
     };
     let names = names_of(rt.alloc(), &extracted)?;
-    assert_eq!(rt;
+    same(
+        &rt,
         names.as_slice(),
-        b"n10_2000_0 n11_2000_0 n11_2000_2800 n1_3800_2800 n1_6000_2800 n2_6000_2800 n3_6000_2800 n4_6000_0 n4_6000_2800 n8_2000_0 n8_3800_0 n9_2000_0 ".as_slice()
+        b"n10_2000_0 n11_2000_0 n11_2000_2800 n1_3800_2800 n1_6000_2800 n2_6000_2800 n3_6000_2800 n4_6000_0 n4_6000_2800 n8_2000_0 n8_3800_0 n9_2000_0 ".as_slice(),
     );
     let net = &extracted.net;
-    assert_eq!(rt; net.nodes(), 12);
+    assert!(rt; net.nodes() == 12);
     assert!(rt; same_resistors(net.resistors()));
-    assert_eq!(rt; net.pad(2), Some(0));
-    assert_eq!(rt; net.pad(7), Some(1_100_000_000_000_000_000_000_000));
-    assert_eq!(rt; net.pads().len(), 2);
-    assert_eq!(rt; net.load(3), (0, 333_300_000_000));
-    assert_eq!(rt; net.load(10), (-333_300_000_000, 0));
+    same(&rt, net.pad(2), Some(0));
+    same(&rt, net.pad(7), Some(1_100_000_000_000_000_000_000_000));
+    assert!(rt; net.pads().len() == 2);
+    same(&rt, net.load(3), (0, 333_300_000_000));
+    same(&rt, net.load(10), (-333_300_000_000, 0));
     Ok(())
 }
 
@@ -241,14 +243,15 @@ fn pad_on_the_strap_edge(rt: HostRuntime) -> Result<(), Fail> {
         return Ok(());
     };
     let names = names_of(rt.alloc(), &extracted)?;
-    assert_eq!(rt;
+    same(
+        &rt,
         names.as_slice(),
-        b"n10_2000_0 n11_2000_0 n1_6000_2800 n2_6000_2800 n3_6000_2800 n4_6000_0 n4_6000_2800 n8_2000_0 n9_2000_0 ".as_slice()
+        b"n10_2000_0 n11_2000_0 n1_6000_2800 n2_6000_2800 n3_6000_2800 n4_6000_0 n4_6000_2800 n8_2000_0 n9_2000_0 ".as_slice(),
     );
     let net = &extracted.net;
-    assert_eq!(rt; net.nodes(), 9);
-    assert_eq!(rt; net.pads().len(), 1);
-    assert_eq!(rt; net.pad(5), Some(1_100_000_000_000_000_000_000_000));
+    assert!(rt; net.nodes() == 9);
+    assert!(rt; net.pads().len() == 1);
+    same(&rt, net.pad(5), Some(1_100_000_000_000_000_000_000_000));
     Ok(())
 }
 

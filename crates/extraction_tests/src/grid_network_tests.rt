@@ -1,4 +1,5 @@
 //! The small design, small cases by hand, and two large grids.
+use crate::same::same;
 use entry_list::Entries;
 use geom_rect::{Axis, Rect, Shape};
 use grid_net::{NetError, Pad};
@@ -252,12 +253,12 @@ fn notes_text(alloc: Global, answer: &Extracted) -> Result<Vec<u8>, AllocError> 
 fn small_design(rt: HostRuntime) -> Result<(), Fail> {
     let alloc = rt.alloc();
     let answer = made(alloc, &small(alloc)?, &technology(alloc)?, &PADS, &TAPS)?;
-    assert_eq!(rt; answer.net.nodes(), 12);
-    assert_eq!(rt; names_text(alloc, &answer)?.as_slice(), NAMES);
-    assert_eq!(rt; resistors_text(alloc, &answer)?.as_str(), RESISTORS);
-    assert_eq!(rt; answer.branches.as_slice(), BRANCHES.as_slice());
-    assert_eq!(rt; notes_text(alloc, &answer)?.as_slice(), NOTES);
-    assert_eq!(rt; answer.net.pads().len(), 2);
+    assert!(rt; answer.net.nodes() == 12);
+    same(&rt, names_text(alloc, &answer)?.as_slice(), NAMES);
+    same(&rt, resistors_text(alloc, &answer)?.as_str(), RESISTORS);
+    same(&rt, answer.branches.as_slice(), BRANCHES.as_slice());
+    same(&rt, notes_text(alloc, &answer)?.as_slice(), NOTES);
+    assert!(rt; answer.net.pads().len() == 2);
     Ok(())
 }
 
@@ -295,8 +296,8 @@ fn resistance_of_a_wire(rt: HostRuntime) -> Result<(), Fail> {
     let pads = [pad(0, 0, 1), pad(0, 112_000, 1)];
     let answer = made(rt.alloc(), &grid, &tech, &pads, &[])?;
     let resistors = answer.net.resistors();
-    assert_eq!(rt; resistors.len(), 1);
-    assert_eq!(rt; resistors[0].ohms, 44_333_333_333);
+    assert!(rt; resistors.len() == 1);
+    same(&rt, resistors[0].ohms, 44_333_333_333);
     Ok(())
 }
 
@@ -306,9 +307,9 @@ fn two_taps_at_one_place(rt: HostRuntime) -> Result<(), Fail> {
     let grid = flat(rt.alloc(), &[rail(0, 2800, 8000)])?;
     let taps = [tap(0, 500, -1, 7), tap(0, 500, 3, 11)];
     let answer = made(rt.alloc(), &grid, &tech, &[], &taps)?;
-    assert_eq!(rt; answer.net.nodes(), 1);
-    assert_eq!(rt; answer.net.resistors().len(), 0);
-    assert_eq!(rt; answer.net.load(0), (2, 18));
+    assert!(rt; answer.net.nodes() == 1);
+    assert!(rt; answer.net.resistors().len() == 0);
+    same(&rt, answer.net.load(0), (2, 18));
     Ok(())
 }
 
@@ -327,11 +328,11 @@ fn pad_on_two_pieces(rt: HostRuntime) -> Result<(), Fail> {
     let taps = [tap(0, 0, 1, 1), tap(1, 9000, 1, 1)];
     let pads = [pad(0, 1000, 9), pad(1, 6000, 9)];
     let answer = made(rt.alloc(), &grid, &tech, &pads, &taps)?;
-    assert_eq!(rt; answer.net.nodes(), 3);
-    assert_eq!(rt; answer.net.resistors().len(), 2);
+    assert!(rt; answer.net.nodes() == 3);
+    assert!(rt; answer.net.resistors().len() == 2);
     let standing = answer.net.pads();
-    assert_eq!(rt; standing.len(), 1);
-    assert_eq!(rt; standing[0], Pad { node: 1, volts: 9 });
+    assert!(rt; standing.len() == 1);
+    same(&rt, standing[0], Pad { node: 1, volts: 9 });
     let pads = [pad(0, 1000, 9), pad(1, 6000, 8)];
     let conflict = NetError::PadConflict {
         node: 1,
@@ -340,7 +341,7 @@ fn pad_on_two_pieces(rt: HostRuntime) -> Result<(), Fail> {
     };
     match made(rt.alloc(), &grid, &tech, &pads, &taps) {
         Ok(_) => assert!(rt; false),
-        Err(error) => assert_eq!(rt; error, ExtractError::Net(conflict)),
+        Err(error) => same(&rt, error, ExtractError::Net(conflict)),
     }
     Ok(())
 }
@@ -389,7 +390,7 @@ fn half_a_million_taps(rt: HostRuntime) -> Result<(), Fail> {
         taps.push(tap(0, along, 1, 1))?;
     }
     let answer = made(alloc, &grid, &tech, &[], &taps)?;
-    assert_eq!(rt; answer.net.nodes(), 500_000);
-    assert_eq!(rt; answer.net.resistors().len(), 499_999);
+    assert!(rt; answer.net.nodes() == 500_000);
+    assert!(rt; answer.net.resistors().len() == 499_999);
     Ok(())
 }

@@ -11,3 +11,5 @@ mod grid_limits_tests;
 mod grid_network_tests;
 #[cfg(test)]
 mod grid_taps_tests;
+#[cfg(test)]
+mod same;

@@ -6,12 +6,12 @@ use Rattle.std.specs.Char.{IsAsciiDigit}
 use Rattle.std.specs.Str.Parse.{AllDigits, digits_value, digits_value_after}
 use Rattle.std.proofs.Math.Nat.{mul-le-mul_right}
 use Rattle.std.proofs.lemmas.Int.Digits.{digits_value-lt}
-use Rattle.std.proofs.lemmas.List.{append-nil, length-append, length-take-le, nil_from_length, take_all}
+use Rattle.std.proofs.lemmas.List.{append-nil, length-append, length-take-le, take_all}
 use Rattle.fixed_decimal.specs.Number.{is_minus, sign_text, fraction_text, fraction_digits, Spelling, Number, number_of, IsDecimal}
 use Rattle.fixed_decimal.specs.Value.{IsNearest, IsValue, DecimalReads, signed}
 use Rattle.fixed_decimal.specs.Short.{IsShort}
 use Rattle.fixed_decimal.specs.inside.Short.{IsExactly, IsRaised, IsShortFraction}
-use Rattle.fixed_decimal.specs.inside.Split.{TakesSign, IsRun, begins_digit, begins_point, begins_sign}
+use Rattle.fixed_decimal.specs.inside.Split.{TakesSign, IsRun, begins_digit, begins_sign}
 use Rattle.fixed_decimal.proofs.Spellings.{sign_unique, digits_unique, digit_no_sign}
 use Rattle.fixed_decimal.proofs.Answering.{abs_signed}
 use Rattle.fixed_decimal.proofs.Powers.{ten_pos, ten_add, ten_le}
@@ -53,20 +53,6 @@ raised_is digits decimals places zeros unit within rest is =
 pub raised_if : (r : Option ℕ) (fits : Type 0) (digits decimals places product : ℕ) → SomeIff r fits product → IsRaised digits decimals places product → IfSome r (IsRaised digits decimals places)
 raised_if None fits digits decimals places product h is = tt
 raised_if (Some x) fits digits decimals places product h is = subst (λ n. IsRaised digits decimals places n) (sym h.1) is
-
--- Digits with no point.
-pub exactly_whole : (text : List ℕ) (places m : ℕ) → 0 < length text → AllDigits 10 text → IsRaised (digits_value 10 text) 0 places m → IsExactly text places m
-exactly_whole text places m some form is = record {
-  whole = text;
-  fraction = None;
-  form = record {
-    is = sym (append-nil text);
-    whole_form = form;
-    fraction_form = tt;
-    some = omega arith;
-  };
-  is = subst (λ x. IsRaised (digits_value 10 x) 0 places m) (sym (append-nil text)) is;
-}
 
 -- Digits, a point, and digits.
 pub exactly_pointed : (text after whole : List ℕ) (places m : ℕ) → text ≡ whole ++ (codes "." ++ after) → 0 < length whole → AllDigits 10 whole → AllDigits 10 after → IsRaised (digits_value_after 10 (digits_value 10 whole) after) (length after) places m → IsExactly text places m
@@ -250,9 +236,6 @@ module _ (text unsigned : List ℕ) (negative : Bool) (count whole decimals : �
 
 -- ## fractions
 
-pub no_fraction : (decimals : ℕ) (text : List ℕ) → length text ≡ 0 → IsShortFraction decimals text
-no_fraction decimals text none = record { fraction = None; is = nil_from_length text none; form = tt; few = omega arith }
-
 module _ (decimals : ℕ) (text after : List ℕ) (is : text ≡ codes "." ++ after) (count : ℕ) (run : IsRun after count) where
   pub fraction_is : count ≡ length after → length after ≤ decimals → IsShortFraction decimals text
   fraction_is all few = record {
@@ -269,19 +252,9 @@ module _ (decimals : ℕ) (text after : List ℕ) (is : text ≡ codes "." ++ af
       by None e = absurd (let size = ap length e in omega arith)
       by (Some ds) e = cc
 
-  pub fraction_few : IsShortFraction decimals text → length after ≤ decimals
-  fraction_few f = let e = ap length (fraction_digits_are f) in let few = f.few in omega arith
-
   pub fraction_all : IsShortFraction decimals text → count ≡ length after
   fraction_all f =
       let are : AllDigits 10 after = subst (AllDigits 10) (fraction_digits_are f) f.form in
       let both : take count after ++ drop count after ≡ after ++ [] = take-append-drop count after ∙ sym (append-nil after) in
       let same = digits_unique (take count after) after (drop count after) [] both run.digits are run.ends refl in
       sym (length-take-le count after run.within) ∙ ap length same.0
-
-pub no_point : (decimals : ℕ) (text : List ℕ) → begins_point text ≡ false → 0 < length text → IsShortFraction decimals text → ⊥
-no_point decimals text other some f = by f.fraction f.is
-  where
-    by : (o : Option (List ℕ)) → text ≡ fraction_text o → ⊥
-    by None e = let size = ap length e in omega arith
-    by (Some ds) e = let e2 = ap begins_point e in cc

@@ -21,3 +21,5 @@ mod node_names_tests;
 mod number_place_tests;
 #[cfg(test)]
 mod outside_tests;
+#[cfg(test)]
+mod same;

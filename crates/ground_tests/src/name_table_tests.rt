@@ -1,3 +1,4 @@
+use crate::same::{same, same_at};
 use name_table::*;
 use std::test::Fail;
 
@@ -19,15 +20,19 @@ fn numbered_and_ordered(rt: HostRuntime) -> Result<(), Fail> {
     let mut table = NameTable::with_capacity(rt.alloc(), 4)?;
     assert!(rt; table.is_empty());
     for (name, want) in NAMES {
-        assert_eq!(rt; table.number(name)?, want, "at {name:?}");
+        same_at(&rt, table.number(name)?, want, name);
     }
-    assert_eq!(rt; table.len(), 7);
+    same(&rt, table.len(), 7);
     assert!(rt; table.contains(b"x"));
     assert!(rt; !table.contains(b"y"));
     let ordered = table.ordered(rt.alloc())?;
     let want: [&[u8]; 7] = [b"", b"__", b"n1", b"n1_0_", b"n1_0_0", b"x", b"\xff\x00"];
-    assert_eq!(rt; ordered.names.as_slice(), want.as_slice());
-    assert_eq!(rt; ordered.places.as_slice(), [4, 1, 2, 0, 5, 3, 6].as_slice());
+    same(&rt, ordered.names.as_slice(), want.as_slice());
+    same(
+        &rt,
+        ordered.places.as_slice(),
+        [4, 1, 2, 0, 5, 3, 6].as_slice(),
+    );
     Ok(())
 }
 

@@ -1,5 +1,6 @@
 //! The calls at a concrete type.
 
+use crate::same::same;
 use named_entries::*;
 use std::test::Fail;
 
@@ -11,6 +12,6 @@ fn entries_with_names(rt: HostRuntime) -> Result<(), Fail> {
     named.add(b"b", 7u64)?;
     assert!(rt; named.contains(b"a"));
     assert!(rt; !named.contains(b""));
-    assert_eq!(rt; named.into_entries().as_slice(), [5u64, 7].as_slice());
+    same(&rt, named.into_entries().as_slice(), [5u64, 7].as_slice());
     Ok(())
 }

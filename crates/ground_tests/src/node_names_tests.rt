@@ -1,3 +1,4 @@
+use crate::same::{same, same_at};
 use node_names::*;
 use std::test::Fail;
 
@@ -24,9 +25,9 @@ fn numbered_and_ordered(rt: HostRuntime) -> Result<(), Fail> {
     let mut table = NodeNames::with_capacity(rt.alloc(), 4)?;
     assert!(rt; table.is_empty());
     for (name, want) in NAMES {
-        assert_eq!(rt; table.number(name)?, want, "at {name:?}");
+        same_at(&rt, table.number(name)?, want, name);
     }
-    assert_eq!(rt; table.len(), 9);
+    same(&rt, table.len(), 9);
     assert!(rt; table.contains(b"ZED"));
     assert!(rt; !table.contains(b"\xe4"));
     let ordered = table.ordered(rt.alloc())?;
@@ -41,13 +42,14 @@ fn numbered_and_ordered(rt: HostRuntime) -> Result<(), Fail> {
         b"zed",
         b"\xc4",
     ];
-    assert_eq!(rt; ordered.names.len(), want.len());
+    same(&rt, ordered.names.len(), want.len());
     for (name, bytes) in ordered.names.iter().zip(want) {
-        assert_eq!(rt; name.bytes(), bytes);
+        same(&rt, name.bytes(), bytes);
     }
-    assert_eq!(rt;
+    same(
+        &rt,
         ordered.places.as_slice(),
-        [6, 0, 7, 5, 4, 8, 1, 2, 3].as_slice()
+        [6, 0, 7, 5, 4, 8, 1, 2, 3].as_slice(),
     );
     Ok(())
 }

@@ -1,4 +1,5 @@
 //! The calls at each form and sign.
+use crate::same::same_at;
 use fixed_decimal::DecimalError;
 use number_place::*;
 use std::test::Fail;
@@ -87,6 +88,6 @@ fn numbers_in_their_places(rt: HostRuntime) {
             limit: 1000,
             sign,
         };
-        assert_eq!(rt; small_number_at(place, text), want, "at {text:?}");
+        same_at(&rt, small_number_at(place, text), want, text);
     }
 }

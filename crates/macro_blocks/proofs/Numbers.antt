@@ -134,12 +134,6 @@ noted_long numbers (a ∷ b ∷ c ∷ d ∷ e ∷ f ∷ g ∷ unit) h = refl
 
 -- ## a whole RECT
 
--- What is the first of some is the first of more.
-pub first_of_more : (words more : List Token) (bad : Bad) → IsFirstBad words bad → IsFirstBad (words ++ more) bad
-first_of_more [] more bad h = absurd h
-first_of_more (w ∷ ws) more bad (inl h) = inl h
-first_of_more (w ∷ ws) more bad (inr h) = inr (h.0, first_of_more ws more bad h.1)
-
 -- It is the first after coordinates.
 pub first_after : (numbers words : List Token) (bad : Bad) → AreCoordinates numbers → IsFirstBad words bad → IsFirstBad (numbers ++ words) bad
 first_after [] words bad h k = k
@@ -202,10 +196,6 @@ origin_other true word value is other first = absurd (let t : true ≡ false = f
 
 -- ## a RECT's number
 
-pub corner_none : (known : Bool) (word : Token) → known ≡ false → Finds (CornerFault known word) None
-corner_none false word off kind h = h
-corner_none true word off kind h = absurd (let t : true ≡ false = off in cc)
-
 corner_by : (known may : Bool) (word : Token) (kind : Option Shown) → known ≡ true → is_number (sort_of word) ≡ may → Finds (CornerBy may word) kind →
     Finds (CornerFault known word) kind
 corner_by true may word kind there is h = subst (λ z. Finds (CornerBy z word) kind) (sym is) h
@@ -214,6 +204,3 @@ corner_by false may word kind there is h = absurd (let t : false ≡ true = ther
 pub corner_number : (known : Bool) (word : Token) (kind : Option Shown) → known ≡ true → is_number (sort_of word) ≡ true → Finds (NoCoordinate word) kind →
     Finds (CornerFault known word) kind
 corner_number known word kind there is h = corner_by known true word kind there is h
-
-pub corner_mark : (known : Bool) (word : Token) → known ≡ true → is_number (sort_of word) ≡ false → Finds (CornerFault known word) (Some kinds.Syntax)
-corner_mark known word there is = corner_by known false word (Some kinds.Syntax) there is refl

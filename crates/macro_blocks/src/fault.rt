@@ -305,7 +305,7 @@ fn is_fine_after_layer(unit: &[Word<'_>]) -> bool
     }
 }
 
-/// Whether it is plain that the last word of a unit shows no fault, as few words do. Where it is not, each fault has to be looked for.
+/// Whether it is plain that the last word of a unit shows no fault. Where it is not, each fault has to be looked for.
 pub(crate) fn is_fine(section: Section, unit: &[Word<'_>]) -> bool
     ensures { IsTrue result → (standing : There) (numbers : List Token) →
         IsFineIn section standing numbers (map token unit.now) }

@@ -3,6 +3,7 @@ ghost use Rattle.std.specs.Prelude.{All};
 ghost use Rattle.block_rects.specs.Layers.{HasNamesOf};
 ghost use Rattle.macro_blocks.specs.Limits.{MacroKeeps};
 
+use crate::same::{same, same_at};
 use block_rects::*;
 use geom_rect::{Orient, Rect};
 use lef_tech::{LayerRef, Tech, read_tech};
@@ -125,7 +126,7 @@ fn parts_in_their_places(rt: HostRuntime) -> Result<(), Fail> {
         (THIN, Orient::W, Some(rect(12400, 400, 12600, 401))),
     ];
     for (text, orient, want) in cases {
-        assert_eq!(rt; first_part(rt.alloc(), text, orient)?, want, "{orient:?}");
+        same_at(&rt, first_part(rt.alloc(), text, orient)?, want, orient);
     }
     Ok(())
 }
@@ -143,7 +144,7 @@ fn what_is_left_out(rt: HostRuntime) -> Result<(), Fail> {
         power: false,
         ..power
     };
-    assert_eq!(rt; parts.as_slice(), [power, ground].as_slice());
+    same(&rt, parts.as_slice(), [power, ground].as_slice());
     let odd = Obstruction {
         layer: LayerRef::Routing(1),
         rect: rect(10400, 200, 10801, 400),
@@ -152,6 +153,6 @@ fn what_is_left_out(rt: HostRuntime) -> Result<(), Fail> {
         layer: LayerRef::Cut(0),
         rect: rect(10400, 200, 10400, 400),
     };
-    assert_eq!(rt; obstructions.as_slice(), [odd, flat].as_slice());
+    same(&rt, obstructions.as_slice(), [odd, flat].as_slice());
     Ok(())
 }

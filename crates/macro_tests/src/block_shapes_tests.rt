@@ -4,6 +4,7 @@ ghost use Rattle.std.specs.Prelude.{IfOk, All};
 ghost use Rattle.grid_plan.specs.Keeping.{PlanKeeps};
 ghost use Rattle.placed_blocks.specs.Limits.{BlockKeeps};
 
+use crate::same::same;
 use block_grids::halos_of;
 use block_stripes::*;
 use def_design::read_design;
@@ -163,13 +164,18 @@ fn straps_and_rings_over_a_block(rt: HostRuntime) -> Result<(), Fail> {
         x2: 12800,
         y2: 4000,
     };
-    assert_eq!(rt; boxes.last().copied(), Some(BlockBox { grid: 1, outline }));
+    same(
+        &rt,
+        boxes.last().copied(),
+        Some(BlockBox { grid: 1, outline }),
+    );
     let Ok(straps) = block_straps(alloc, &made.tech, &made.plan, &boxes) else {
         panic!(rt; "the straps are refused");
     };
-    assert_eq!(rt;
+    same(
+        &rt,
         straps.as_slice(),
-        [strap(0, 1000), strap(1, 3000)].as_slice()
+        [strap(0, 1000), strap(1, 3000)].as_slice(),
     );
     let Ok(rings) = block_rings(alloc, &made.tech, &made.plan, &boxes) else {
         panic!(rt; "the rings are refused");
@@ -184,7 +190,7 @@ fn straps_and_rings_over_a_block(rt: HostRuntime) -> Result<(), Fail> {
         upright(0, 14400, -1200, 5200),
         flat(0, 5000, 8000, 14800),
     ];
-    assert_eq!(rt; rings.as_slice(), sides.as_slice());
+    same(&rt, rings.as_slice(), sides.as_slice());
     Ok(())
 }
 
@@ -212,6 +218,6 @@ fn pins_of_an_owned_block(rt: HostRuntime) -> Result<(), Fail> {
         to: 12400,
         shape: Shape::Stripe,
     };
-    assert_eq!(rt; pins.as_slice(), [power, ground].as_slice());
+    same(&rt, pins.as_slice(), [power, ground].as_slice());
     Ok(())
 }

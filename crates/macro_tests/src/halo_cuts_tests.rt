@@ -1,4 +1,5 @@
 //! A stripe from ( 1800 0 ) to ( 2200 10000 ) on the second routing layer, drawn by the first grid.
+use crate::same::same_at;
 use entry_list::Entries;
 use geom_rect::{Axis, Drawn, Rect, Shape};
 use halo_cuts::*;
@@ -60,30 +61,35 @@ fn left(
 #[test]
 fn a_stripe_over_halos(rt: HostRuntime) -> Result<(), Fail> {
     let alloc = rt.alloc();
-    assert_eq!(rt;
+    same_at(
+        &rt,
         left(&rt, alloc, block(alloc, Some(1), 1801)?, 1)?,
         (2, 5000),
-        "part of its width"
+        "part of its width",
     );
-    assert_eq!(rt;
+    same_at(
+        &rt,
         left(&rt, alloc, block(alloc, None, 4000)?, 1)?,
         (2, 5000),
-        "a block without a grid"
+        "a block without a grid",
     );
-    assert_eq!(rt;
+    same_at(
+        &rt,
         left(&rt, alloc, block(alloc, Some(1), 1800)?, 1)?,
         (1, 0),
-        "it touches"
+        "it touches",
     );
-    assert_eq!(rt;
+    same_at(
+        &rt,
         left(&rt, alloc, block(alloc, Some(0), 4000)?, 1)?,
         (1, 0),
-        "its own grid"
+        "its own grid",
     );
-    assert_eq!(rt;
+    same_at(
+        &rt,
         left(&rt, alloc, block(alloc, Some(1), 4000)?, 0)?,
         (1, 0),
-        "another layer"
+        "another layer",
     );
     Ok(())
 }

@@ -16,3 +16,5 @@ mod load_shares_tests;
 mod macro_turns_tests;
 #[cfg(test)]
 mod placed_blocks_tests;
+#[cfg(test)]
+mod same;

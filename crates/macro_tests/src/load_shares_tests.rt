@@ -1,3 +1,4 @@
+use crate::same::same_at;
 use load_shares::*;
 use std::test::Fail;
 
@@ -29,15 +30,16 @@ fn shares_of_loads(rt: HostRuntime) -> Result<(), Fail> {
             _ => 3,
         };
         let given = shares(rt.alloc(), Share { low, high }, count)?;
-        assert_eq!(rt; given.len(), want.len(), "{name}");
+        same_at(&rt, given.len(), want.len(), name);
         for (share, (low, high)) in given.iter().zip(want) {
-            assert_eq!(rt;
+            same_at(
+                &rt,
                 *share,
                 Share {
                     low: *low,
-                    high: *high
+                    high: *high,
                 },
-                "{name}"
+                name,
             );
         }
     }

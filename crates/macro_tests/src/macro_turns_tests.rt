@@ -1,4 +1,5 @@
 //! A macro of 2 by 1.4 micrometres at 2000 units, at ( 10000 0 ).
+use crate::same::{same, same_at};
 use geom_rect::{Orient, Rect};
 use macro_turns::*;
 use std::process::Abort;
@@ -48,7 +49,7 @@ fn whole(orient: Orient) -> Rect {
 }
 
 fn has_pin(rt: &impl Abort, orient: Orient, want: Rect) {
-    assert_eq!(rt; pin(orient), want, "{orient:?}");
+    same_at(rt, pin(orient), want, orient);
 }
 
 #[test]
@@ -64,7 +65,7 @@ fn pins_in_their_places(rt: HostRuntime) {
 }
 
 fn has_point(rt: &impl Abort, orient: Orient, want: (i64, i64)) {
-    assert_eq!(rt; point(orient), want, "{orient:?}");
+    same_at(rt, point(orient), want, orient);
 }
 
 #[test]
@@ -81,6 +82,6 @@ fn points_in_their_places(rt: HostRuntime) {
 
 #[test]
 fn boxes_of_macros(rt: HostRuntime) {
-    assert_eq!(rt; whole(Orient::FS), rect(10000, 0, 14000, 2800));
-    assert_eq!(rt; whole(Orient::E), rect(10000, 0, 12800, 4000));
+    same(&rt, whole(Orient::FS), rect(10000, 0, 14000, 2800));
+    same(&rt, whole(Orient::E), rect(10000, 0, 12800, 4000));
 }

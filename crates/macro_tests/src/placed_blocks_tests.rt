@@ -1,4 +1,5 @@
 //! A block of 2 by 1.4 micrometres, on its side at ( 10000 0 ), in a design with 2000 units in a micrometre.
+use crate::same::same;
 use block_grids::halos_of;
 use def_design::read_design;
 use geom_rect::Rect;
@@ -85,34 +86,37 @@ fn placed(
 #[test]
 fn a_block_on_its_side(rt: HostRuntime) -> Result<(), Fail> {
     let placed = placed(&rt, rt.alloc(), None)?;
-    assert_eq!(rt; placed.len(), 1);
+    assert!(rt; placed.len() == 1);
     let block = &placed[0];
-    assert_eq!(rt;
+    same(
+        &rt,
         (block.component, block.domain, block.grid),
-        (2, Some(0), Some(1))
+        (2, Some(0), Some(1)),
     );
-    assert_eq!(rt;
+    same(
+        &rt,
         block.outline,
         Rect {
             x1: 10000,
             y1: 0,
             x2: 12800,
-            y2: 4000
-        }
+            y2: 4000,
+        },
     );
-    assert_eq!(rt;
+    same(
+        &rt,
         block.grown,
         Rect {
             x1: 9000,
             y1: -2000,
             x2: 13800,
-            y2: 6000
-        }
+            y2: 6000,
+        },
     );
-    assert_eq!(rt; block.pins.as_slice().len(), 1);
-    assert_eq!(rt; block.obstructions.as_slice().len(), 1);
+    assert!(rt; block.pins.as_slice().len() == 1);
+    assert!(rt; block.obstructions.as_slice().len() == 1);
     let cuts = [true, true, true, false];
-    assert_eq!(rt; block.cuts.as_slice(), cuts.as_slice());
+    same(&rt, block.cuts.as_slice(), cuts.as_slice());
     Ok(())
 }
 
@@ -125,7 +129,7 @@ fn a_block_that_no_domain_owns(rt: HostRuntime) -> Result<(), Fail> {
         y2: 4000,
     };
     let placed = placed(&rt, rt.alloc(), Some(region))?;
-    assert_eq!(rt; placed.len(), 1);
-    assert_eq!(rt; placed[0].domain, None);
+    assert!(rt; placed.len() == 1);
+    same(&rt, placed[0].domain, None);
     Ok(())
 }

@@ -1,4 +1,5 @@
 //! Texts whose lists and refusals were worked out from the form of a certificate.
+use crate::same::{same, same_at};
 use CertKind::{Number, Syntax, WrongNode};
 use DecimalError::{NotNumber, Range};
 use certificate_file::*;
@@ -76,8 +77,8 @@ fn lists_that_are_read(rt: HostRuntime) -> Result<(), Fail> {
     let names = names_of(rt.alloc(), &NODES)?;
     for (text, high, low) in READ {
         let lists = read_certificate(rt.alloc(), text, &names)?;
-        assert_eq!(rt; lists.high.as_slice(), high.as_slice(), "in {text:?}");
-        assert_eq!(rt; lists.low.as_slice(), low.as_slice(), "in {text:?}");
+        same_at(&rt, lists.high.as_slice(), high.as_slice(), text);
+        same_at(&rt, lists.low.as_slice(), low.as_slice(), text);
     }
     Ok(())
 }
@@ -206,10 +207,11 @@ fn compare_refusals(rt: &impl Abort, alloc: Global, names: &[Name], rows: &[Refu
             line: *line,
             word: *word,
         };
-        assert_eq!(rt;
+        same_at(
+            rt,
             read_certificate(alloc, text, names).err(),
             Some(CertError { place, kind: *kind }),
-            "at {text:?}"
+            text,
         );
     }
 }
@@ -230,9 +232,10 @@ fn certificate_bias_and_wiring_refusals(rt: HostRuntime) -> Result<(), Fail> {
         b"pdn certificate 1\np 1000000000000000000000000 1000000000000000000000000\nn 999000000000001000000000 998999999999999000000000\nend\n";
     let place = Place { line: 2, word: 1 };
     let kind = WrongNode;
-    assert_eq!(rt;
+    same(
+        &rt,
         read_certificate(rt.alloc(), text, &names).err(),
-        Some(CertError { place, kind })
+        Some(CertError { place, kind }),
     );
     Ok(())
 }
@@ -243,13 +246,14 @@ fn names_like_keywords(rt: HostRuntime) -> Result<(), Fail> {
     let names = names_of(rt.alloc(), &[b"end", b"pdn", b";", b"1"])?;
     let text = b"pdn certificate 1\nend 1 2\npdn 3 4\n; 5 6\n1 7 8\nend\n";
     let lists = read_certificate(rt.alloc(), text, &names)?;
-    assert_eq!(rt; lists.high.as_slice(), [1, 3, 5, 7].as_slice());
-    assert_eq!(rt; lists.low.as_slice(), [2, 4, 6, 8].as_slice());
+    same(&rt, lists.high.as_slice(), [1, 3, 5, 7].as_slice());
+    same(&rt, lists.low.as_slice(), [2, 4, 6, 8].as_slice());
     let place = Place { line: 2, word: 2 };
     let kind = Syntax;
-    assert_eq!(rt;
+    same(
+        &rt,
         read_certificate(rt.alloc(), b"pdn certificate 1\nend\n", &names).err(),
-        Some(CertError { place, kind })
+        Some(CertError { place, kind }),
     );
     Ok(())
 }
@@ -261,12 +265,13 @@ fn no_nodes(rt: HostRuntime) -> Result<(), Fail> {
     assert!(rt; lists.high.as_slice().is_empty());
     assert!(rt; lists.low.as_slice().is_empty());
     let text = certificate_text(rt.alloc(), &[], &[], &[])?;
-    assert_eq!(rt; text.as_slice(), b"pdn certificate 1\nend\n".as_slice());
+    same(&rt, text.as_slice(), b"pdn certificate 1\nend\n".as_slice());
     let place = Place { line: 2, word: 1 };
     let kind = Syntax;
-    assert_eq!(rt;
+    same(
+        &rt,
         read_certificate(rt.alloc(), b"pdn certificate 1\nn 1 1\nend\n", &[]).err(),
-        Some(CertError { place, kind })
+        Some(CertError { place, kind }),
     );
     Ok(())
 }
@@ -274,11 +279,12 @@ fn no_nodes(rt: HostRuntime) -> Result<(), Fail> {
 #[test]
 fn written_text(rt: HostRuntime) -> Result<(), Fail> {
     let names = names_of(rt.alloc(), &NODES)?;
-    assert_eq!(rt; names.len(), 2);
+    assert!(rt; names.len() == 2);
     let text = certificate_text(rt.alloc(), &names, &[12, TEN_TO_37], &[-7, -TEN_TO_37])?;
-    assert_eq!(rt;
+    same(
+        &rt,
         text.as_slice(),
-        b"pdn certificate 1\nn 12 -7\np 10000000000000000000000000000000000000 -10000000000000000000000000000000000000\nend\n".as_slice()
+        b"pdn certificate 1\nn 12 -7\np 10000000000000000000000000000000000000 -10000000000000000000000000000000000000\nend\n".as_slice(),
     );
     Ok(())
 }
@@ -308,7 +314,7 @@ fn a_million_lines(rt: HostRuntime) -> Result<(), Fail> {
     let text = long_text(rt.alloc(), 1_000_000)?;
     let names = many_names(rt.alloc(), 1_000_000)?;
     let lists = read_certificate(rt.alloc(), &text, &names)?;
-    assert_eq!(rt; lists.high.as_slice().len(), 1_000_000);
+    assert!(rt; lists.high.as_slice().len() == 1_000_000);
     assert!(rt; lists.low.as_slice().iter().all(|low| *low == -7));
     let fewer = &names[..names.len().saturating_sub(1)];
     let place = Place {
@@ -316,9 +322,10 @@ fn a_million_lines(rt: HostRuntime) -> Result<(), Fail> {
         word: 1,
     };
     let kind = Syntax;
-    assert_eq!(rt;
+    same(
+        &rt,
         read_certificate(rt.alloc(), &text, fewer).err(),
-        Some(CertError { place, kind })
+        Some(CertError { place, kind }),
     );
     Ok(())
 }

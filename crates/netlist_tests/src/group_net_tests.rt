@@ -1,6 +1,7 @@
 //! Small networks with shorts, and one whose million nodes are one group.
 ghost use Rattle.std.specs.Prelude.{◌≡◌, ◌<◌, ◌≤ℤ◌, All, IfOk};
 
+use crate::same::{same, same_at};
 use grid_net::{Load, Net, Pad, Resistor};
 use group_net::*;
 use std::alloc::{AllocError, Global};
@@ -67,11 +68,16 @@ fn shorts_are_merged(rt: HostRuntime) -> Result<(), Fail> {
     ]?;
     let net = network(alloc, 5, resistors, pads, loads)?;
     let merged = merge_net(alloc, net, &[(3, 1), (0, 0), (4, 3)]).map_err(|_| "refused")?;
-    assert_eq!(rt;
+    same(
+        &rt,
         merged.groups.group.as_slice(),
-        [0u32, 1, 2, 1, 1].as_slice()
+        [0u32, 1, 2, 1, 1].as_slice(),
     );
-    assert_eq!(rt; merged.groups.firsts.as_slice(), [0u32, 1, 2].as_slice());
+    same(
+        &rt,
+        merged.groups.firsts.as_slice(),
+        [0u32, 1, 2].as_slice(),
+    );
     let kept = [
         Resistor {
             a: 1,
@@ -89,17 +95,18 @@ fn shorts_are_merged(rt: HostRuntime) -> Result<(), Fail> {
             ohms: 9,
         },
     ];
-    assert_eq!(rt; merged.net.resistors(), kept.as_slice());
+    same(&rt, merged.net.resistors(), kept.as_slice());
     let pads = [Pad { node: 1, volts: 30 }, Pad { node: 2, volts: -5 }];
-    assert_eq!(rt; merged.net.pads(), pads.as_slice());
-    assert_eq!(rt; merged.net.nodes(), 3);
+    same(&rt, merged.net.pads(), pads.as_slice());
+    assert!(rt; merged.net.nodes() == 3);
     let added = [(0i64, 0i64), (-2, 6), (6, 6)];
     for node in 0..3u32 {
         assert!(rt; node < merged.net.nodes());
-        assert_eq!(rt;
+        same_at(
+            &rt,
             merged.net.load(node),
             added[node as usize],
-            "the load of {node}"
+            ("the load of", node),
         );
     }
     Ok(())
@@ -176,8 +183,12 @@ fn a_million_nodes_are_one(rt: HostRuntime) -> Result<(), Fail> {
     ]?;
     let net = network(alloc, 1_000_000, Vec::new(alloc), pads, loads)?;
     let merged = merge_net(alloc, net, &chain(alloc, 1_000_000)?).map_err(|_| "refused")?;
-    assert_eq!(rt; merged.net.nodes(), 1);
-    assert_eq!(rt; merged.net.pads(), [Pad { node: 0, volts: 3 }].as_slice());
-    assert_eq!(rt; merged.net.load(0), (-3, 11));
+    assert!(rt; merged.net.nodes() == 1);
+    same(
+        &rt,
+        merged.net.pads(),
+        [Pad { node: 0, volts: 3 }].as_slice(),
+    );
+    same(&rt, merged.net.load(0), (-3, 11));
     Ok(())
 }

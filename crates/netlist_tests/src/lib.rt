@@ -12,6 +12,8 @@ mod netlist_words_tests;
 #[cfg(test)]
 mod node_groups_tests;
 #[cfg(test)]
+mod same;
+#[cfg(test)]
 mod short_merge_tests;
 #[cfg(test)]
 mod spice_cards_tests;

@@ -1,5 +1,6 @@
 //! Texts with their words, as `LINE:WORD TEXT`, the end of a card as `|`, one with a text as `|TEXT`, and the end of
 //! the text as `.`.
+use crate::same::same_at;
 use netlist_words::*;
 use reading::{Form, Source};
 use std::alloc::Global;
@@ -115,7 +116,7 @@ fn told(alloc: Global, text: &[u8]) -> Result<String, Fail> {
 fn words_of_netlists(rt: HostRuntime) -> Result<(), Fail> {
     for (text, want) in TEXTS {
         let found = told(rt.alloc(), text.as_bytes())?;
-        assert_eq!(rt; found.as_str().trim_end(), *want, "at {text:?}");
+        same_at(&rt, found.as_str().trim_end(), *want, text);
     }
     Ok(())
 }

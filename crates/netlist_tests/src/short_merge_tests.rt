@@ -3,6 +3,7 @@ ghost use Rattle.std.specs.Prelude.{◌≡◌, ◌<◌, ◌≤ℤ◌, ◌^◌, l
 ghost use Rattle.spice_grid.specs.Caps.{EndAmong};
 ghost use Rattle.short_merge.specs.Netlist.{IsNetlist};
 
+use crate::same::same;
 use entry_list::Entries;
 use grid_net::{Load, Net, Pad, Resistor};
 use outside::Name;
@@ -110,32 +111,35 @@ fn shorts_are_merged(rt: HostRuntime) -> Result<(), Fail> {
     let merged = merge(alloc, three_nodes(alloc, Some(VOLT), Vec::new(alloc))?).map_err(
         |_| "refused",
     )?;
-    assert_eq!(rt; merged.names.as_slice().len(), 2);
+    assert!(rt; merged.names.as_slice().len() == 2);
     for (name, bytes) in merged.names.as_slice().iter().zip([b"a", b"c"]) {
-        assert_eq!(rt; name.bytes(), bytes.as_slice());
+        same(&rt, name.bytes(), bytes.as_slice());
     }
-    assert_eq!(rt; merged.group.as_slice(), [0u32, 0, 1].as_slice());
-    assert_eq!(rt;
+    same(&rt, merged.group.as_slice(), [0u32, 0, 1].as_slice());
+    same(
+        &rt,
         merged.net.resistors(),
         [Resistor {
             a: 0,
             b: 1,
-            ohms: 1_000_000_000
+            ohms: 1_000_000_000,
         }]
-        .as_slice()
+        .as_slice(),
     );
-    assert_eq!(rt;
+    same(
+        &rt,
         merged.net.pads(),
         [Pad {
             node: 0,
-            volts: VOLT
+            volts: VOLT,
         }]
-        .as_slice()
+        .as_slice(),
     );
-    assert_eq!(rt; merged.net.nodes(), 2);
-    assert_eq!(rt;
+    assert!(rt; merged.net.nodes() == 2);
+    same(
+        &rt,
         merged.net.load(1),
-        (500_000_000_000_000, 500_000_000_000_000)
+        (500_000_000_000_000, 500_000_000_000_000),
     );
     Ok(())
 }
@@ -148,8 +152,8 @@ fn pads_of_a_group_that_differ(rt: HostRuntime) -> Result<(), Fail> {
         alloc,
         three_nodes(alloc, Some(higher), Vec::new(alloc))?,
     ))?;
-    assert_eq!(rt; name.bytes(), b"a".as_slice());
-    assert_eq!(rt; (first, second), (VOLT, higher));
+    same(&rt, name.bytes(), b"a".as_slice());
+    same(&rt, (first, second), (VOLT, higher));
     Ok(())
 }
 
@@ -169,12 +173,16 @@ fn a_short_to_ground(rt: HostRuntime) -> Result<(), Fail> {
         Vec::new(alloc),
     )?;
     let merged = merge(alloc, named).map_err(|_| "refused")?;
-    assert_eq!(rt; merged.names.as_slice().len(), 2);
+    assert!(rt; merged.names.as_slice().len() == 2);
     for (name, bytes) in merged.names.as_slice().iter().zip([b"0", b"m"]) {
-        assert_eq!(rt; name.bytes(), bytes.as_slice());
+        same(&rt, name.bytes(), bytes.as_slice());
     }
-    assert_eq!(rt; merged.group.as_slice(), [0u32, 1, 0].as_slice());
-    assert_eq!(rt; merged.net.pads(), [Pad { node: 0, volts: 0 }].as_slice());
+    same(&rt, merged.group.as_slice(), [0u32, 1, 0].as_slice());
+    same(
+        &rt,
+        merged.net.pads(),
+        [Pad { node: 0, volts: 0 }].as_slice(),
+    );
     Ok(())
 }
 
@@ -196,21 +204,22 @@ fn capacitors_by_groups(rt: HostRuntime) -> Result<(), Fail> {
     ]?;
     let named = three_nodes(alloc, None, caps)?;
     let merged = merge(alloc, named).map_err(|_| "refused")?;
-    assert_eq!(rt;
+    same(
+        &rt,
         merged.caps.as_slice(),
         [
             Cap {
                 a: End::Node(1),
                 b: End::Node(0),
-                farads: 5
+                farads: 5,
             },
             Cap {
                 a: End::Ground,
                 b: End::Nowhere,
-                farads: 0
-            }
+                farads: 0,
+            },
         ]
-        .as_slice()
+        .as_slice(),
     );
     Ok(())
 }
@@ -245,20 +254,25 @@ fn small_calls(rt: HostRuntime) -> Result<(), Fail> {
     )?;
     let merged = merge(alloc, named).map_err(|_| "refused")?;
     for (name, bytes) in merged.names.as_slice().iter().zip([b"n", b"p"]) {
-        assert_eq!(rt; name.bytes(), bytes.as_slice());
+        same(&rt, name.bytes(), bytes.as_slice());
     }
-    assert_eq!(rt; merged.group.as_slice(), [0u32, 1].as_slice());
-    assert_eq!(rt;
+    same(&rt, merged.group.as_slice(), [0u32, 1].as_slice());
+    same(
+        &rt,
         merged.net.resistors(),
         [Resistor {
             a: 1,
             b: 0,
-            ohms: 7
+            ohms: 7,
         }]
-        .as_slice()
+        .as_slice(),
     );
-    assert_eq!(rt; merged.net.pads(), [Pad { node: 1, volts: 30 }].as_slice());
-    assert_eq!(rt; merged.net.nodes(), 2);
-    assert_eq!(rt; merged.net.load(0), (-2, 3));
+    same(
+        &rt,
+        merged.net.pads(),
+        [Pad { node: 1, volts: 30 }].as_slice(),
+    );
+    assert!(rt; merged.net.nodes() == 2);
+    same(&rt, merged.net.load(0), (-2, 3));
     Ok(())
 }

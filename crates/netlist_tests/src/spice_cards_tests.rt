@@ -1,4 +1,5 @@
 //! Texts whose records and refusals were worked out from the rules of the cards: 1 Ω is 10^9 nΩ, 1 V is 10^24 yV, 1 A is 10^15 fA.
+use crate::same::same_at;
 use spice_cards::*;
 use std::alloc::Global;
 use std::fmt::Write;
@@ -231,11 +232,11 @@ fn told(alloc: Global, text: &[u8]) -> Result<String, Fail> {
 fn records_and_refusals(rt: HostRuntime) -> Result<(), Fail> {
     for (text, want) in RECORDS {
         let found = told(rt.alloc(), text.as_bytes())?;
-        assert_eq!(rt; found.as_str().trim_end(), *want, "at {text:?}");
+        same_at(&rt, found.as_str().trim_end(), *want, text);
     }
     for (text, want) in REFUSED {
         let found = told(rt.alloc(), text.as_bytes())?;
-        assert_eq!(rt; found.as_str(), *want, "at {text:?}");
+        same_at(&rt, found.as_str(), *want, text);
     }
     Ok(())
 }

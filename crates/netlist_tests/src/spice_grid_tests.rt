@@ -1,4 +1,5 @@
 //! Texts whose networks and refusals were worked out from the rules of the cards: 1 Ω is 10^9 nΩ, 1 V is 10^24 yV, 1 A is 10^15 fA.
+use crate::same::{same, same_at};
 use grid_net::{Load, Net, Note, Pad, Resistor};
 use outside::Name;
 use spice_grid::*;
@@ -186,11 +187,11 @@ fn told(alloc: Global, text: &str) -> Result<String, Fail> {
 fn records_and_refusals(rt: HostRuntime) -> Result<(), Fail> {
     for (text, want) in RECORDS {
         let found = told(rt.alloc(), text)?;
-        assert_eq!(rt; found.as_str().trim_end(), *want, "at {text:?}");
+        same_at(&rt, found.as_str().trim_end(), *want, text);
     }
     for (text, want) in REFUSED {
         let found = told(rt.alloc(), text)?;
-        assert_eq!(rt; found.as_str(), *want, "at {text:?}");
+        same_at(&rt, found.as_str(), *want, text);
     }
     Ok(())
 }
@@ -198,7 +199,7 @@ fn records_and_refusals(rt: HostRuntime) -> Result<(), Fail> {
 #[test]
 fn source_card_cut_off(rt: HostRuntime) -> Result<(), Fail> {
     let found = told(rt.alloc(), "R1 p n 1\nV1 p 0")?;
-    assert_eq!(rt; found.as_str(), "2:4 Syntax");
+    same(&rt, found.as_str(), "2:4 Syntax");
     Ok(())
 }
 
@@ -219,7 +220,7 @@ fn resistor_at_its_limits(rt: HostRuntime) -> Result<(), Fail> {
         ),
     ];
     for (text, want) in rows {
-        assert_eq!(rt; told(rt.alloc(), text)?.as_str(), want);
+        same(&rt, told(rt.alloc(), text)?.as_str(), want);
     }
     Ok(())
 }
@@ -237,7 +238,7 @@ fn two_voltages_at_one_pad(rt: HostRuntime) -> Result<(), Fail> {
         ),
     ];
     for (text, want) in rows {
-        assert_eq!(rt; told(rt.alloc(), text)?.as_str(), want);
+        same(&rt, told(rt.alloc(), text)?.as_str(), want);
     }
     Ok(())
 }
@@ -260,7 +261,7 @@ fn texts_of_shorts_are_merged(rt: HostRuntime) -> Result<(), Fail> {
         ),
     ];
     for (text, want) in rows {
-        assert_eq!(rt; told(rt.alloc(), text)?.as_str(), want);
+        same(&rt, told(rt.alloc(), text)?.as_str(), want);
     }
     Ok(())
 }
@@ -343,7 +344,7 @@ fn small_design_written_again(rt: HostRuntime) -> Result<(), Fail> {
         })?;
     }
     let text = written(alloc, SMALL_DESIGN.as_bytes(), &notes)?;
-    assert_eq!(rt; text.as_slice(), SMALL_DESIGN.as_bytes());
+    same(&rt, text.as_slice(), SMALL_DESIGN.as_bytes());
     Ok(())
 }
 
@@ -384,7 +385,7 @@ fn same_record(alloc: Global, rt: &impl std::process::Abort, text: &[u8]) -> Res
     };
     let before = record(alloc, &first)?;
     let after = record(alloc, &second)?;
-    assert_eq!(rt; before.as_str(), after.as_str());
+    same(rt, before.as_str(), after.as_str());
     Ok(())
 }
 
@@ -432,7 +433,7 @@ fn a_network_as_a_netlist(rt: HostRuntime) -> Result<(), Fail> {
     ]?;
     let net = Net::build(alloc, 2, resistors, pads, loads).map_err(|_| "refused")?;
     let names = vec![in alloc; Name::new(alloc, b"a")?, Name::new(alloc, b"b")?]?;
-    assert_eq!(rt; names.len(), net.nodes() as usize);
+    assert!(rt; names.len() == net.nodes() as usize);
     let note = Note {
         layer: Name::new(alloc, b"metal1")?,
         net: Name::new(alloc, b"VDD")?,
@@ -440,6 +441,6 @@ fn a_network_as_a_netlist(rt: HostRuntime) -> Result<(), Fail> {
     };
     let notes = vec![in alloc; note]?;
     let text = netlist_text(alloc, &net, &names, &notes)?;
-    assert_eq!(rt; text.as_slice(), WRITTEN);
+    same(&rt, text.as_slice(), WRITTEN);
     Ok(())
 }

@@ -1,4 +1,5 @@
 //! Texts whose records and refusals were worked out from the rule of the format: 1 A is 10^15 fA.
+use crate::same::{same, same_at};
 use DecimalError::{NotNumber, Range, Vanishes};
 use WavesKind::{Falling, Number, Syntax, Twice, UnknownNode};
 use fixed_decimal::DecimalError;
@@ -26,7 +27,7 @@ type Said = (u32, u32, i64, i64);
 
 fn compare(rt: &impl Abort, waves: &Waves, wants: &[Said]) {
     let changes = waves.changes.as_slice();
-    assert_eq!(rt; changes.len(), wants.len());
+    assert!(rt; changes.len() == wants.len());
     for (change, (step, node, low, high)) in changes.iter().zip(wants) {
         let want = Change {
             step: *step,
@@ -34,7 +35,7 @@ fn compare(rt: &impl Abort, waves: &Waves, wants: &[Said]) {
             low: *low,
             high: *high,
         };
-        assert_eq!(rt; *change, want);
+        same(rt, *change, want);
     }
 }
 
@@ -125,10 +126,11 @@ fn compare_refusals(rt: &impl Abort, alloc: Global, names: &[Name], rows: &[Refu
             line: *line,
             word: *word,
         };
-        assert_eq!(rt;
+        same_at(
+            rt,
             read_group_waves(alloc, text, names).err(),
             Some(WavesError { place, kind: *kind }),
-            "at {text:?}"
+            text,
         );
     }
 }
@@ -163,12 +165,13 @@ fn groups_of_a_netlist(rt: HostRuntime) -> Result<(), Fail> {
         ],
     );
     let place = Place { line: 1, word: 3 };
-    assert_eq!(rt;
+    same(
+        &rt,
         read_waves(rt.alloc(), b"at 1 s 1m\n", &merged).err(),
         Some(WavesError {
             place,
-            kind: UnknownNode
-        })
+            kind: UnknownNode,
+        }),
     );
     Ok(())
 }

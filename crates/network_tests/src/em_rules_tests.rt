@@ -3,6 +3,7 @@ ghost use Rattle.lef_tech.specs.Limits.{TechKeeps};
 ghost use Rattle.em_rules.specs.Limit.{IsWidth, HasCuts};
 ghost use Rattle.via_arrays.specs.Lengths.{IsUnits};
 
+use crate::same::{same, same_at};
 use em_rules::*;
 use lef_tech::{Tech, read_tech};
 use std::test::Fail;
@@ -28,7 +29,7 @@ fn verdicts_are_closed(rt: HostRuntime) {
         (i128::MIN, 0, Some(1 << 127), Verdict::Safe),
         (i128::MIN, 0, Some((1 << 127) - 1), Verdict::Undecided),
     ] {
-        assert_eq!(rt; verdict(low, high, limit), want, "from {low} to {high}");
+        same_at(&rt, verdict(low, high, limit), want, (low, high));
     }
 }
 
@@ -84,7 +85,7 @@ fn limits_from_a_table(rt: HostRuntime) -> Result<(), Fail> {
         (100, 50_000_000_000),
         (2000, 3_000_000_000_000),
     ] {
-        assert_eq!(rt; wire(&tech, 0, width, 2000), Some(want), "at {width}");
+        same_at(&rt, wire(&tech, 0, width, 2000), Some(want), width);
     }
     Ok(())
 }
@@ -104,10 +105,11 @@ fn widths_at_a_point(rt: HostRuntime) -> Result<(), Fail> {
         (1, 3, 722_222_222_222),
         (2, 7, 551_020_408_163),
     ] {
-        assert_eq!(rt;
+        same_at(
+            &rt,
             wire(&tech, 0, width, units),
             Some(want),
-            "at {width} of {units}"
+            (width, units),
         );
     }
     Ok(())
@@ -118,10 +120,10 @@ fn tables_of_one_point(rt: HostRuntime) -> Result<(), Fail> {
     let Ok(tech) = read_tech(rt.alloc(), TECHNOLOGY) else {
         return Err("refused")?;
     };
-    assert_eq!(rt; wire(&tech, 1, 100, 2000), Some(250_000_000_000));
-    assert_eq!(rt; wire(&tech, 1, 400, 2000), Some(1_000_000_000_000));
-    assert_eq!(rt; wire(&tech, 1, 4000, 2000), Some(10_000_000_000_000));
-    assert_eq!(rt; wire(&tech, 3, 4000, 2000), None);
+    same(&rt, wire(&tech, 1, 100, 2000), Some(250_000_000_000));
+    same(&rt, wire(&tech, 1, 400, 2000), Some(1_000_000_000_000));
+    same(&rt, wire(&tech, 1, 4000, 2000), Some(10_000_000_000_000));
+    same(&rt, wire(&tech, 3, 4000, 2000), None);
     Ok(())
 }
 
@@ -131,11 +133,16 @@ fn greatest_numbers(rt: HostRuntime) -> Result<(), Fail> {
         return Err("refused")?;
     };
     let most = 4_294_967_296;
-    assert_eq!(rt;
+    same(
+        &rt,
         wire(&tech, 2, most, 1),
-        Some(4_294_967_296_000_000_000_000_000_000)
+        Some(4_294_967_296_000_000_000_000_000_000),
     );
-    assert_eq!(rt; wire(&tech, 0, most, 20000), Some(644_245_094_400_000_000));
+    same(
+        &rt,
+        wire(&tech, 0, most, 20000),
+        Some(644_245_094_400_000_000),
+    );
     let array = CutArray {
         cut_x: most,
         cut_y: most,
@@ -143,13 +150,15 @@ fn greatest_numbers(rt: HostRuntime) -> Result<(), Fail> {
         rows: 1,
         ..ARRAY
     };
-    assert_eq!(rt;
+    same(
+        &rt,
         cuts(&tech, 1, &array, 1),
-        Some(18_446_744_073_709_551_616_000_000_000_000_000)
+        Some(18_446_744_073_709_551_616_000_000_000_000_000),
     );
-    assert_eq!(rt;
+    same(
+        &rt,
         cuts(&tech, 0, &array, 1),
-        Some(553_402_322_211_286_548_480_000_000_000_000)
+        Some(553_402_322_211_286_548_480_000_000_000_000),
     );
     Ok(())
 }
@@ -185,12 +194,13 @@ fn limits_of_arrays(rt: HostRuntime) -> Result<(), Fail> {
             cut_y,
             ..ARRAY
         };
-        assert_eq!(rt;
+        same_at(
+            &rt,
             cuts(&tech, 0, &array, 2000),
             Some(want),
-            "at {cut_x} by {cut_y}"
+            (cut_x, cut_y),
         );
     }
-    assert_eq!(rt; cuts(&tech, 2, &ARRAY, 2000), None);
+    same(&rt, cuts(&tech, 2, &ARRAY, 2000), None);
     Ok(())
 }

@@ -12,6 +12,8 @@ mod em_rules_tests;
 #[cfg(test)]
 mod grid_net_tests;
 #[cfg(test)]
+mod same;
+#[cfg(test)]
 mod signoff_report_tests;
 #[cfg(test)]
 mod step_bounds_tests;

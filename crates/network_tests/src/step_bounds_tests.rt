@@ -1,6 +1,7 @@
 ghost use Rattle.std.specs.Prelude.{◌≡◌, ◌≤◌, ◌<◌, ◌^◌, ◌≤ℤ◌};
 ghost use Rattle.step_bounds.specs.Changes.{AreChanges};
 
+use crate::same::same;
 use capacitors::{Cap, End};
 use grid_net::{Fixed, Load, Net, Pad, Quantity, Resistor};
 use rounding::{div_ceil, div_floor};
@@ -148,7 +149,7 @@ fn one_capacitor_over_two_steps(rt: HostRuntime) {
         (998_499_999, 998_500_001),
         (998_249_999, 998_250_001),
     ];
-    assert_eq!(rt; found.as_slice(), wanted.as_slice());
+    same(&rt, found.as_slice(), wanted.as_slice());
 }
 
 #[test]
@@ -156,7 +157,7 @@ fn no_change_keeps_the_digits(rt: HostRuntime) {
     let net = one_load(&rt);
     let found = printed(&rt, without_change(&rt, &net, &[at_n(NANOFARAD)], 2), 1);
     let wanted = [(998_999_999, 999_000_001); 3];
-    assert_eq!(rt; found.as_slice(), wanted.as_slice());
+    same(&rt, found.as_slice(), wanted.as_slice());
 }
 
 // Without capacitors each step is at rest at once, from the step of the change on.
@@ -170,7 +171,7 @@ fn a_change_without_a_capacitor(rt: HostRuntime) {
         (997_999_999, 998_000_001),
         (997_999_999, 998_000_001),
     ];
-    assert_eq!(rt; found.as_slice(), wanted.as_slice());
+    same(&rt, found.as_slice(), wanted.as_slice());
 }
 
 // Two capacitors of half a nanofarad, one to the pad, are as one of a nanofarad to ground.
@@ -190,7 +191,7 @@ fn two_capacitors_at_one_node(rt: HostRuntime) {
         (998_499_999, 998_500_001),
         (998_249_999, 998_250_001),
     ];
-    assert_eq!(rt; found.as_slice(), wanted.as_slice());
+    same(&rt, found.as_slice(), wanted.as_slice());
 }
 
 #[test]
@@ -208,10 +209,10 @@ fn resistance_beyond_its_limit(rt: HostRuntime) {
                 before,
             },
         ) => {
-            assert_eq!(rt; (step, quantity, at), (1, Quantity::Resistance, 2));
-            assert_eq!(rt; number, 10_000_000_000_000_000);
-            assert_eq!(rt; before.high.as_slice().len(), 1);
-            assert_eq!(rt; before.low.as_slice().len(), 1);
+            same(&rt, (step, quantity, at), (1, Quantity::Resistance, 2));
+            same(&rt, number, 10_000_000_000_000_000);
+            assert!(rt; before.high.as_slice().len() == 1);
+            assert!(rt; before.low.as_slice().len() == 1);
         }
         _ => panic!(rt; "no refusal"),
     }
@@ -234,7 +235,11 @@ fn resistance_of_a_capacitance(rt: HostRuntime) {
         ),
     ] {
         let found = companions(rt.alloc(), &net, &[at_n(farads)], time).expect(&rt, "memory");
-        assert_eq!(rt; found.as_slice(), [Companion { node: 1, ohms }].as_slice());
+        same(
+            &rt,
+            found.as_slice(),
+            [Companion { node: 1, ohms }].as_slice(),
+        );
     }
 }
 
@@ -250,7 +255,7 @@ fn the_first_that_floats(rt: HostRuntime) {
         (between(End::Node(0), End::Ground, 1), None),
         (between(End::Nowhere, End::Node(1), 1), None),
     ] {
-        assert_eq!(rt; first_floating(&net, &[cap]), found);
-        assert_eq!(rt; first_floating(&net, &[cap, floats]), Some(0));
+        same(&rt, first_floating(&net, &[cap]), found);
+        same(&rt, first_floating(&net, &[cap, floats]), Some(0));
     }
 }

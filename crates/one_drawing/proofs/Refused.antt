@@ -34,27 +34,8 @@ use Rattle.one_drawing.proofs.Likened.{with_connects, shapes_move, many_move}
 use Rattle.one_drawing.proofs.Restacked.{MovesRefusals, moves_alike, moves_limits, metal_same, no_refusal, one_refusal}
 use Rattle.one_drawing.specs.Laws.Shaped.{one_shapes, few_lines}
 use Rattle.one_drawing.specs.Laws.Pieced.{one_pieces}
-use Rattle.one_drawing.specs.Laws.Stacked.{OneStack, one_stacks}
+use Rattle.one_drawing.specs.Laws.Stacked.{OneStack, one_stacks, is_want}
 use Rattle.one_drawing.specs.Laws.Touched.{one_first_touch}
-
-is_want : (e : DrawError) → (e ≡ errors.Want) ⊎ (e ≢ errors.Want)
-is_want errors.Want = inl refl
-is_want (errors.UnknownName name) = inr (λ same. absurd (cc))
-is_want (errors.RingLayers k) = inr (λ same. absurd (cc))
-is_want (errors.RailLayer k) = inr (λ same. absurd (cc))
-is_want (errors.ParallelConnect k) = inr (λ same. absurd (cc))
-is_want errors.NoRows = inr (λ same. absurd (cc))
-is_want (errors.OffGrid k) = inr (λ same. absurd (cc))
-is_want (errors.OddWidth k) = inr (λ same. absurd (cc))
-is_want (errors.RegionShape k) = inr (λ same. absurd (cc))
-is_want (errors.RegionsMeet j k) = inr (λ same. absurd (cc))
-is_want (errors.RowAcross k) = inr (λ same. absurd (cc))
-is_want (errors.EmptyDomain k) = inr (λ same. absurd (cc))
-is_want (errors.MacroGrid k) = inr (λ same. absurd (cc))
-is_want (errors.TooMany counted) = inr (λ same. absurd (cc))
-is_want (errors.NoSheet k) = inr (λ same. absurd (cc))
-is_want (errors.Stack error x y) = inr (λ same. absurd (cc))
-is_want (errors.Touch touching) = inr (λ same. absurd (cc))
 
 -- The pieces of a plan of which another differs in its connects alone are its own.
 moved_pieces : (tech : Tech) (cells : Cells) (design : Design) (script : Script) (p q : Plan) (a b : List Piece) → HasPieces tech cells design script p a → HasPieces tech cells design script q b → a ≡ b

@@ -30,7 +30,7 @@ use Rattle.macro_grid.specs.declared.record.MacroGrid.{MacroGrid}
 use Rattle.macro_grid.specs.Drawing.{without_places, Lays, all_blocks, AreMacroPieces, AreMacroStacks, IsOfPlan, IsMacroDrawing, HasManyLines, HasNoStacks, Touches, HasNoPlan, IsDrawRefused, IsMacroRefused}
 use Rattle.one_drawing.specs.Apart.{StandApart}
 use Rattle.one_drawing.specs.Laws.Planned.{one_plan, no_plan, one_plan_refusal}
-use Rattle.one_drawing.specs.Laws.Stacked.{OneStack, one_stacks}
+use Rattle.one_drawing.specs.Laws.Stacked.{OneStack, one_stacks, is_want}
 use Rattle.one_drawing.specs.Laws.Touched.{one_first_touch}
 use Rattle.one_macro_grid.proofs.Shaped.{OneCut, few_macro_lines}
 use Rattle.one_macro_grid.proofs.Pieced.{one_macro_pieces, one_pins}
@@ -46,10 +46,6 @@ pub record OneOfEach : Type 0 where
   pub stack : OneStack
   pub placed : OnePlaced
   pub cut : OneCut
-
-is_want : (e : DrawError) → (e ≡ errors.Want) ⊎ (e ≢ errors.Want)
-is_want errors.Want = inl refl
-is_want e = inr (λ same. absurd (cc))
 
 -- A plan, blocks in their places, and all pieces.
 abbrev Cut : Type 0

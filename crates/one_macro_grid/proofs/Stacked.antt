@@ -1,6 +1,5 @@
 -- Pieces that have stacks are refused for no reason, and others for one.
-use Rattle.std.proofs.Common.{◌≡◌, ◌≢◌, ◌⊎◌, inl, inr, ℕ, ◌<◌, ◌≤◌, ℤ, true, List, length, get_or, subst, sym, ap, ◌∙◌, arith}
-use Rattle.std.specs.Ordering.{is_lt}
+use Rattle.std.proofs.Common.{◌≡◌, ◌≢◌, ◌⊎◌, inl, inr, ℕ, ◌<◌, ◌≤◌, ℤ, List, length, get_or, subst, sym, ap, ◌∙◌, arith}
 use Rattle.std.proofs.lemmas.Bool.{cases_lt}
 use Rattle.std.proofs.lemmas.List.Elements.{All-contains}
 use Rattle.lef_tech.specs.declared.tech.Tech.{Tech}
@@ -12,20 +11,12 @@ use Rattle.grid_pieces.specs.declared.piece.Piece.{Piece}
 use Rattle.grid_pieces.specs.declared.piece.StackAt.{StackAt}
 use Rattle.grid_stacks.specs.declared.connect.Site.{Site}
 use Rattle.grid_stacks.specs.Crossing.{At}
-use Rattle.grid_stacks.specs.Stacking.{AreSites, AreAllowed, AreStacks, AreRefused, IsStackAt, IsFirstRefused, MoreThan, most_pieces, most_stacks, site_order}
-use Rattle.one_drawing.specs.Laws.Listed.{same_list, no_longer}
-use Rattle.one_drawing.specs.Laws.Ordered.{sites_one_way}
-use Rattle.one_drawing.specs.Laws.Stacked.{OneStack, HasStacks, LacksSheet, LacksStack, HasReason, reason, same_at, one_layer, all_sheets, lowest, no_stack}
+use Rattle.grid_stacks.specs.Stacking.{AreAllowed, AreStacks, AreRefused, IsStackAt, IsFirstRefused, MoreThan, most_pieces, most_stacks}
+use Rattle.one_drawing.specs.Laws.Listed.{no_longer}
+use Rattle.one_drawing.specs.Laws.Stacked.{OneStack, HasStacks, LacksSheet, LacksStack, HasReason, reason, one_sites, same_at, one_layer, all_sheets, lowest, no_stack}
 use Rattle.one_macro_grid.proofs.Shaped.{not_more}
 
 module _ (known : OneStack) (P : Site → Type 0) (tech : Tech) (units : ℕ) (pieces : List Piece) where
-  -- ## sites
-
-  one_sites : (a b : List Site) → AreSites P a → AreSites P b → a ≡ b
-  one_sites a b x y =
-      same_list (λ (s t : Site). is_lt (site_order s t) ≡ true) sites_one_way a b x.in_order y.in_order (λ site has. y.every site (All-contains P a site x.each has))
-      (λ site has. x.every site (All-contains P b site y.each has))
-
   few_sites : (sites : List Site) → AreAllowed P pieces sites → MoreThan most_stacks P → ⊥
   few_sites sites allowed many =
       let le : length many.some ≤ length sites = no_longer many.some sites many.differ (λ site has. allowed.are.every site (All-contains P many.some site many.each has)) in
@@ -70,7 +61,7 @@ module _ (known : OneStack) (P : Site → Type 0) (tech : Tech) (units : ℕ) (p
   no_reason stacks e are (inr (inl y)) = few_sites are.0 are.1 y.1
   no_reason stacks e are (inr (inr (inl y))) = all_sheets tech pieces y.0 are.2 y.3
   no_reason stacks e are (inr (inr (inr y))) =
-      let sites : y.3 ≡ are.0 = one_sites y.3 are.0 y.4.are are.1.are in
+      let sites : y.3 ≡ are.0 = one_sites P y.3 are.0 y.4.are are.1.are in
       let first : IsFirstRefused tech units are.0 y.0 y.1 y.2 = subst (λ (s : List Site). IsFirstRefused tech units s y.0 y.1 y.2) sites y.6 in
       let at : StackAt = get_or stacks first.place no_stack in
       let stands : IsStackAt tech units first.site at = subst (λ (s : Site). IsStackAt tech units s at) first.is.1 (are.3.each first.place first.site no_stack first.is.0) in
@@ -91,7 +82,7 @@ module _ (known : OneStack) (P : Site → Type 0) (tech : Tech) (units : ℕ) (p
   same_lack e f (inl x) (inr y) = absurd (all_sheets tech pieces x.0 y.5 x.3)
   same_lack e f (inr x) (inl y) = absurd (all_sheets tech pieces y.0 x.5 y.3)
   same_lack e f (inr x) (inr y) =
-      let sites : x.3 ≡ y.3 = one_sites x.3 y.3 x.4.are y.4.are in
+      let sites : x.3 ≡ y.3 = one_sites P x.3 y.3 x.4.are y.4.are in
       let first : IsFirstRefused tech units y.3 x.0 x.1 x.2 = subst (λ (s : List Site). IsFirstRefused tech units s x.0 x.1 x.2) sites x.6 in
       x.7 ∙ one_first y.3 x.0 y.0 x.1 x.2 y.1 y.2 first y.6 ∙ sym y.7
 

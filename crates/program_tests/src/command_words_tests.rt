@@ -1,4 +1,5 @@
 //! Words of commands, and words of none.
+use crate::same::{same, same_at};
 use command_words::*;
 use outside::Argv;
 use std::alloc::Global;
@@ -77,15 +78,15 @@ fn build_in_any_order(rt: HostRuntime) -> Result<(), Fail> {
             certificate,
             report,
         } => {
-            assert_eq!(rt; lef.as_str(), "a");
-            assert_eq!(rt; cells.as_str(), "a");
-            assert_eq!(rt; def.as_str(), "b=1");
-            assert_eq!(rt; pdn.as_str(), "c");
-            assert_eq!(rt; bias.as_str(), "d");
-            assert_eq!(rt; out_def.as_str(), "e");
-            assert_eq!(rt; netlist.as_str(), "f");
-            assert_eq!(rt; certificate.as_str(), "g");
-            assert_eq!(rt; report.as_str(), "h");
+            same(&rt, lef.as_str(), "a");
+            same(&rt, cells.as_str(), "a");
+            same(&rt, def.as_str(), "b=1");
+            same(&rt, pdn.as_str(), "c");
+            same(&rt, bias.as_str(), "d");
+            same(&rt, out_def.as_str(), "e");
+            same(&rt, netlist.as_str(), "f");
+            same(&rt, certificate.as_str(), "g");
+            same(&rt, report.as_str(), "h");
         }
         _ => panic!(rt; "another command"),
     }
@@ -125,14 +126,14 @@ fn signoff_in_any_order(rt: HostRuntime) -> Result<(), Fail> {
     else {
         panic!(rt; "another command");
     };
-    assert_eq!(rt; lef.as_str(), "a");
-    assert_eq!(rt; cells.as_str(), "k");
-    assert_eq!(rt; def.as_str(), "b");
-    assert_eq!(rt; wires.as_str(), "b");
-    assert_eq!(rt; bias.as_str(), "d");
-    assert_eq!(rt; netlist.as_str(), "f");
-    assert_eq!(rt; certificate.as_str(), "g");
-    assert_eq!(rt; report.as_str(), "h");
+    same(&rt, lef.as_str(), "a");
+    same(&rt, cells.as_str(), "k");
+    same(&rt, def.as_str(), "b");
+    same(&rt, wires.as_str(), "b");
+    same(&rt, bias.as_str(), "d");
+    same(&rt, netlist.as_str(), "f");
+    same(&rt, certificate.as_str(), "g");
+    same(&rt, report.as_str(), "h");
     Ok(())
 }
 
@@ -155,9 +156,9 @@ fn solve_and_check(rt: HostRuntime) -> Result<(), Fail> {
             certificate,
             report,
         } => {
-            assert_eq!(rt; netlist.as_str(), "x");
-            assert_eq!(rt; certificate.as_str(), "x");
-            assert_eq!(rt; report.as_str(), "y");
+            same(&rt, netlist.as_str(), "x");
+            same(&rt, certificate.as_str(), "x");
+            same(&rt, report.as_str(), "y");
         }
         _ => panic!(rt; "another command"),
     }
@@ -167,8 +168,8 @@ fn solve_and_check(rt: HostRuntime) -> Result<(), Fail> {
             netlist,
             certificate,
         } => {
-            assert_eq!(rt; netlist.as_str(), "x");
-            assert_eq!(rt; certificate.as_str(), "x");
+            same(&rt, netlist.as_str(), "x");
+            same(&rt, certificate.as_str(), "x");
         }
         _ => panic!(rt; "another command"),
     }
@@ -188,13 +189,13 @@ fn generate_a_design(rt: HostRuntime) -> Result<(), Fail> {
             pdn,
             bias,
         } => {
-            assert_eq!(rt; number, u64::MAX);
-            assert_eq!(rt; side, 300);
-            assert_eq!(rt; lef.as_str(), "a");
-            assert_eq!(rt; cells.as_str(), "b");
-            assert_eq!(rt; def.as_str(), "c");
-            assert_eq!(rt; pdn.as_str(), "d");
-            assert_eq!(rt; bias.as_str(), "e");
+            same(&rt, number, u64::MAX);
+            same(&rt, side, 300);
+            same(&rt, lef.as_str(), "a");
+            same(&rt, cells.as_str(), "b");
+            same(&rt, def.as_str(), "c");
+            same(&rt, pdn.as_str(), "d");
+            same(&rt, bias.as_str(), "e");
         }
         _ => panic!(rt; "another command"),
     }
@@ -213,12 +214,12 @@ fn step_over_time(rt: HostRuntime) -> Result<(), Fail> {
             certificate,
             report,
         } => {
-            assert_eq!(rt; netlist.as_str(), "a");
-            assert_eq!(rt; waves.as_str(), "a");
-            assert_eq!(rt; time, 500_000_000);
-            assert_eq!(rt; steps, 1000);
-            assert_eq!(rt; certificate.as_str(), "d");
-            assert_eq!(rt; report.as_str(), "e");
+            same(&rt, netlist.as_str(), "a");
+            same(&rt, waves.as_str(), "a");
+            same(&rt, time, 500_000_000);
+            same(&rt, steps, 1000);
+            same(&rt, certificate.as_str(), "d");
+            same(&rt, report.as_str(), "e");
         }
         _ => panic!(rt; "another command"),
     }
@@ -265,7 +266,7 @@ fn stepped(alloc: Global, time: &str, steps: &str) -> Result<Result<Command, Wor
 fn times_of_steps(rt: HostRuntime) -> Result<(), Fail> {
     for (text, units) in TIMES {
         match stepped(rt.alloc(), text, "1")?? {
-            Command::Step { time, .. } => assert_eq!(rt; time, units, "{text}"),
+            Command::Step { time, .. } => same_at(&rt, time, units, text),
             _ => panic!(rt; "another command"),
         }
     }

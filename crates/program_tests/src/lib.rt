@@ -14,6 +14,8 @@ mod output_files_tests;
 #[cfg(test)]
 mod refusal_words_tests;
 #[cfg(test)]
+mod same;
+#[cfg(test)]
 mod solving_tests;
 #[cfg(test)]
 mod step_texts_tests;

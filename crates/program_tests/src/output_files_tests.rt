@@ -1,3 +1,4 @@
+use crate::same::same;
 use output_files::*;
 use outside::{MemFiles, Name, WriteError};
 use std::alloc::{AllocError, Global};
@@ -30,7 +31,7 @@ fn files(alloc: Global, call: u64) -> Result<MemFiles, AllocError> {
 #[test]
 fn outputs_in_turn(rt: HostRuntime) -> Result<(), Fail> {
     let mut whole = files(rt.alloc(), 9)?;
-    assert_eq!(rt; write_each(&mut whole, &OUTPUTS), Ok(()));
+    same(&rt, write_each(&mut whole, &OUTPUTS), Ok(()));
     assert!(rt; whole.bytes("a") == Some(b"first".as_slice()));
     assert!(rt; whole.bytes("b") == Some(b"second".as_slice()));
     assert!(rt; whole.bytes("c") == Some(b"third".as_slice()));
@@ -39,12 +40,12 @@ fn outputs_in_turn(rt: HostRuntime) -> Result<(), Fail> {
         error: WriteError::WriteFault,
     };
     let mut not_made = files(rt.alloc(), 1)?;
-    assert_eq!(rt; write_each(&mut not_made, &OUTPUTS), Err(stopped));
+    same(&rt, write_each(&mut not_made, &OUTPUTS), Err(stopped));
     assert!(rt; not_made.bytes("a") == Some(b"first".as_slice()));
     assert!(rt; not_made.bytes("b").is_none());
     assert!(rt; not_made.bytes("c") == Some(b"old".as_slice()));
     let mut empty = files(rt.alloc(), 2)?;
-    assert_eq!(rt; write_each(&mut empty, &OUTPUTS), Err(stopped));
+    same(&rt, write_each(&mut empty, &OUTPUTS), Err(stopped));
     assert!(rt; empty.bytes("b") == Some(b"".as_slice()));
     Ok(())
 }

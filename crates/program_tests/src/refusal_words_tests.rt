@@ -1,4 +1,5 @@
 //! Refusals as they are told. The lines were worked out apart from this code.
+use crate::same::same;
 use def_design::{Design, read_design};
 use def_wiring::read_wires;
 use entry_list::Entries;
@@ -236,11 +237,11 @@ fn told_refusals(rt: HostRuntime) -> Result<(), Fail> {
     let design = read_design(rt.alloc(), DESIGN)?;
     let script = read_script(rt.alloc(), SCRIPT)?;
     let drawn = first_drawing_untold(rt.alloc(), &tech, &design, &script)?;
-    assert_eq!(rt; drawn, DRAWING);
+    same(&rt, drawn, DRAWING);
     assert!(rt; tells_any_bytes(rt.alloc(), &tech, &design, &script)?);
     let extracted = first_extraction_untold(rt.alloc(), &design)?;
-    assert_eq!(rt; extracted, EXTRACTION.len());
+    assert!(rt; extracted == EXTRACTION.len());
     let wired = first_wired_untold(rt.alloc(), &tech)?;
-    assert_eq!(rt; wired, WIRED.len());
+    assert!(rt; wired == WIRED.len());
     Ok(())
 }

@@ -1,4 +1,5 @@
 //! Netlists signed off with solvers that tell their lists.
+use crate::same::same;
 use grid_net::Fixed;
 use solving::sign_off;
 use std::alloc::{AllocError, Global};
@@ -24,17 +25,19 @@ fn a_tight_proposal_is_kept(rt: HostRuntime) -> Result<(), Fail> {
     let Ok(signed) = sign_off(alloc, "net", NETLIST, &mut solver) else {
         panic!(rt; "the netlist is refused");
     };
-    assert_eq!(rt;
+    same(
+        &rt,
         signed.certificate.as_slice(),
-        b"pdn certificate 1\nn 999000000000101000000000 998999999999899000000000\np 1000000000000000000000000 1000000000000000000000000\nend\n".as_slice()
+        b"pdn certificate 1\nn 999000000000101000000000 998999999999899000000000\np 1000000000000000000000000 1000000000000000000000000\nend\n".as_slice(),
     );
-    assert_eq!(rt;
+    same(
+        &rt,
         signed.report.as_slice(),
-        b"pdn report 1\nnode n 0.998999999 0.999000001\nnode p 1.000000000 1.000000000\nbranch R1 p n 0.000999999 0.001000001 none NOLIMIT\nend\n".as_slice()
+        b"pdn report 1\nnode n 0.998999999 0.999000001\nnode p 1.000000000 1.000000000\nbranch R1 p n 0.000999999 0.001000001 none NOLIMIT\nend\n".as_slice(),
     );
-    assert_eq!(rt; signed.nodes, 2);
-    assert_eq!(rt; signed.resistors, 1);
-    assert_eq!(rt; signed.sweeps, 0);
+    same(&rt, signed.nodes, 2);
+    same(&rt, signed.resistors, 1);
+    same(&rt, signed.sweeps, 0);
     Ok(())
 }
 
@@ -46,7 +49,7 @@ fn refused(rt: &(impl Abort + AllocGlobal), netlist: &[u8], line: &[u8]) -> Resu
         Ok(_) => panic!(rt; "it is signed off"),
         Err(answer) => {
             let found = answer.line(alloc)?;
-            assert_eq!(rt; found.as_slice(), line);
+            same(rt, found.as_slice(), line);
         }
     }
     Ok(())

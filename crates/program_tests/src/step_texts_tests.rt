@@ -1,4 +1,5 @@
 //! The texts of no steps. Whole texts are compared where netlists are stepped.
+use crate::same::same;
 use outside::Name;
 use std::alloc::{AllocError, Global};
 use std::test::Fail;
@@ -19,8 +20,8 @@ fn no_steps(rt: HostRuntime) -> Result<(), Fail> {
     let names = names(alloc)?;
     let none = Vec::new(alloc);
     let certificate = certificate_of_steps(alloc, &names, &none, &none)?;
-    assert_eq!(rt; certificate.as_slice(), b"".as_slice());
+    same(&rt, certificate.as_slice(), b"".as_slice());
     let report = report_of_steps(alloc, &names, &none, &none)?;
-    assert_eq!(rt; report.as_slice(), b"pdn steps 1\nend\n".as_slice());
+    same(&rt, report.as_slice(), b"pdn steps 1\nend\n".as_slice());
     Ok(())
 }

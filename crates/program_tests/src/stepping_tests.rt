@@ -1,6 +1,7 @@
 //! Netlists stepped with a solver that proposes nothing of use.
 ghost use Rattle.std.specs.Prelude.{◌≤◌, ◌^◌};
 
+use crate::same::same;
 use answers::Answer;
 use grid_net::hostile::Everywhere;
 use std::alloc::{AllocError, Global};
@@ -32,12 +33,13 @@ fn a_load_that_rises(rt: HostRuntime) -> Result<(), Fail> {
     let Ok(stepped) = stepped(rt.alloc(), NETLIST, b"at 1 n 2m\n", TIMES) else {
         panic!(rt; "the netlist is refused");
     };
-    assert_eq!(rt;
+    same(
+        &rt,
         stepped.report.as_slice(),
-        b"pdn steps 1\nstep 0\nnode n 0.998999999 0.999000001\nnode p 1.000000000 1.000000000\nstep 1\nnode n 0.998499999 0.998500001\nnode p 1.000000000 1.000000000\nstep 2\nnode n 0.998249999 0.998250001\nnode p 1.000000000 1.000000000\nend\n".as_slice()
+        b"pdn steps 1\nstep 0\nnode n 0.998999999 0.999000001\nnode p 1.000000000 1.000000000\nstep 1\nnode n 0.998499999 0.998500001\nnode p 1.000000000 1.000000000\nstep 2\nnode n 0.998249999 0.998250001\nnode p 1.000000000 1.000000000\nend\n".as_slice(),
     );
-    assert_eq!(rt; stepped.nodes, 2);
-    assert_eq!(rt; stepped.steps, 2);
+    same(&rt, stepped.nodes, 2);
+    same(&rt, stepped.steps, 2);
     Ok(())
 }
 
@@ -57,7 +59,7 @@ fn refused(
         Ok(_) => panic!(rt; "it is stepped"),
         Err(answer) => {
             let found = answer.line(alloc)?;
-            assert_eq!(rt; found.as_slice(), line);
+            same(rt, found.as_slice(), line);
         }
     }
     Ok(())
@@ -106,9 +108,10 @@ fn capacitors_without_effect(rt: HostRuntime) -> Result<(), Fail> {
     let Ok(stepped) = stepped(rt.alloc(), netlist, b"at 1 m 2m\n", TIMES) else {
         panic!(rt; "the netlist is refused");
     };
-    assert_eq!(rt;
+    same(
+        &rt,
         stepped.report.as_slice(),
-        b"pdn steps 1\nstep 0\nnode k 0.999999999 1.000000001\nnode m 0.998999999 0.999000001\nnode p 1.000000000 1.000000000\nstep 1\nnode k 0.999999999 1.000000001\nnode m 0.997999999 0.998000001\nnode p 1.000000000 1.000000000\nstep 2\nnode k 0.999999999 1.000000001\nnode m 0.997999999 0.998000001\nnode p 1.000000000 1.000000000\nend\n".as_slice()
+        b"pdn steps 1\nstep 0\nnode k 0.999999999 1.000000001\nnode m 0.998999999 0.999000001\nnode p 1.000000000 1.000000000\nstep 1\nnode k 0.999999999 1.000000001\nnode m 0.997999999 0.998000001\nnode p 1.000000000 1.000000000\nstep 2\nnode k 0.999999999 1.000000001\nnode m 0.997999999 0.998000001\nnode p 1.000000000 1.000000000\nend\n".as_slice(),
     );
     Ok(())
 }

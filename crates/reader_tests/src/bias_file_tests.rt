@@ -1,5 +1,6 @@
 //! Texts whose records and refusals were worked out from the rule of the format: 1 V is 10^24 yV, 1 A is 10^15 fA, 1 µm
 //! is 10^6 pm.
+use crate::same::{same, same_at};
 use BiasKind::{Falling, Number, Syntax, Twice};
 use DecimalError::{NotNumber, Range, Vanishes};
 use bias_file::*;
@@ -114,7 +115,7 @@ impl Entry for Amps {
 }
 
 fn compare<E: Entry + Debug>(rt: &impl Abort, entries: &[E], wants: &[E::Want]) {
-    assert_eq!(rt; entries.len(), wants.len());
+    same(rt, entries.len(), wants.len());
     for (entry, want) in entries.iter().zip(wants) {
         assert!(rt; entry.is(want), "{entry:?}");
     }
@@ -348,10 +349,11 @@ fn compare_refusals(rt: &impl Abort, alloc: Global, rows: &[Refused]) {
             line: *line,
             word: *word,
         };
-        assert_eq!(rt;
+        same_at(
+            rt,
             refusal(alloc, text),
             Some(BiasError { place, kind: *kind }),
-            "at {text:?}"
+            text,
         );
     }
 }
@@ -468,10 +470,11 @@ fn counts(bias: &Bias) -> (usize, usize, usize, usize, usize) {
 fn compare_counts(rt: &impl Abort, alloc: Global, rows: &[Accepted]) -> Result<(), Fail> {
     for (text, supplies, drops, pads, cells, instances) in rows {
         let bias = read_bias(alloc, text)?;
-        assert_eq!(rt;
+        same_at(
+            rt,
             counts(&bias),
             (*supplies, *drops, *pads, *cells, *instances),
-            "at {text:?}"
+            text,
         );
     }
     Ok(())
@@ -589,10 +592,11 @@ fn cut_refusal(line: u64, word: u64) -> Option<BiasError> {
 fn cut_texts(rt: HostRuntime) -> Result<(), Fail> {
     for (length, (line, word)) in CUTS.iter().enumerate() {
         let text = SMALL.get(..length).ok_or("a cut behind the text")?;
-        assert_eq!(rt;
+        same_at(
+            &rt,
             refusal(rt.alloc(), text),
             cut_refusal(*line, *word),
-            "cut behind {length}"
+            ("cut behind", length),
         );
     }
     Ok(())

@@ -1,4 +1,5 @@
 //! Texts whose records and refusals were worked out from the rules of the format.
+use crate::same::{same, same_at};
 use DecimalError::{NotNumber, Range};
 use DefKind::{AlreadyRouted, BadString, Missing, Number, Polygon, RowForm, Syntax, Twice};
 use def_design::*;
@@ -28,25 +29,25 @@ fn rect(x1: i64, y1: i64, x2: i64, y2: i64) -> Rect {
 #[test]
 fn def_of_the_small_design(rt: HostRuntime) -> Result<(), Fail> {
     let design = read_design(rt.alloc(), SMALL)?;
-    assert_eq!(rt; design.name.bytes(), b"small".as_slice());
-    assert_eq!(rt; design.units, 2000);
-    assert_eq!(rt; design.die, rect(0, 0, 8000, 2800));
-    assert_eq!(rt; design.rows.as_slice().len(), 1);
+    same(&rt, design.name.bytes(), b"small".as_slice());
+    same(&rt, design.units, 2000);
+    same(&rt, design.die, rect(0, 0, 8000, 2800));
+    same(&rt, design.rows.as_slice().len(), 1);
     for row in design.rows.as_slice() {
-        assert_eq!(rt; row.name.bytes(), b"r0".as_slice());
-        assert_eq!(rt; row.site.bytes(), b"unit".as_slice());
-        assert_eq!(rt; (row.x, row.y, row.count), (0, 0, 20));
-        assert_eq!(rt; row.orient, Orient::N);
-        assert_eq!(rt; row.step, Some(400));
+        same(&rt, row.name.bytes(), b"r0".as_slice());
+        same(&rt, row.site.bytes(), b"unit".as_slice());
+        same(&rt, (row.x, row.y, row.count), (0, 0, 20));
+        same(&rt, row.orient, Orient::N);
+        same(&rt, row.step, Some(400));
     }
-    assert_eq!(rt; design.components.as_slice().len(), 1);
+    same(&rt, design.components.as_slice().len(), 1);
     for component in design.components.as_slice() {
-        assert_eq!(rt; component.name.bytes(), b"u1".as_slice());
-        assert_eq!(rt; component.cell.bytes(), b"C0".as_slice());
-        assert_eq!(rt; component.place, Some((2400, 0, Orient::N)));
+        same(&rt, component.name.bytes(), b"u1".as_slice());
+        same(&rt, component.cell.bytes(), b"C0".as_slice());
+        same(&rt, component.place, Some((2400, 0, Orient::N)));
     }
-    assert_eq!(rt; design.blockages.as_slice().len(), 0);
-    assert_eq!(rt; design.regions.as_slice().len(), 0);
+    same(&rt, design.blockages.as_slice().len(), 0);
+    same(&rt, design.regions.as_slice().len(), 0);
     Ok(())
 }
 
@@ -92,13 +93,13 @@ fn designs_without_what_is_passed_over(rt: HostRuntime) -> Result<(), Fail> {
     for passed in &PASSED {
         let text = design_with(rt.alloc(), passed)?;
         let design = read_design(rt.alloc(), &text)?;
-        assert_eq!(rt; design.name.bytes(), b"a".as_slice());
-        assert_eq!(rt; design.units, 1);
-        assert_eq!(rt; design.die, rect(0, 0, 1, 1));
-        assert_eq!(rt; design.rows.as_slice().len(), 0);
-        assert_eq!(rt; design.components.as_slice().len(), 0);
-        assert_eq!(rt; design.blockages.as_slice().len(), 0);
-        assert_eq!(rt; design.regions.as_slice().len(), 0);
+        same(&rt, design.name.bytes(), b"a".as_slice());
+        same(&rt, design.units, 1);
+        same(&rt, design.die, rect(0, 0, 1, 1));
+        same(&rt, design.rows.as_slice().len(), 0);
+        same(&rt, design.components.as_slice().len(), 0);
+        same(&rt, design.blockages.as_slice().len(), 0);
+        same(&rt, design.regions.as_slice().len(), 0);
     }
     Ok(())
 }
@@ -136,14 +137,14 @@ fn rows_and_what_repeats_them(rt: HostRuntime) -> Result<(), Fail> {
     for (row, orient, count, step) in &ROWS {
         let text = design_with(rt.alloc(), row)?;
         let design = read_design(rt.alloc(), &text)?;
-        assert_eq!(rt; design.rows.as_slice().len(), 1);
+        same(&rt, design.rows.as_slice().len(), 1);
         for row in design.rows.as_slice() {
-            assert_eq!(rt; row.name.bytes(), b"r".as_slice());
-            assert_eq!(rt; row.site.bytes(), b"s".as_slice());
-            assert_eq!(rt; (row.x, row.y), (-1, 2));
-            assert_eq!(rt; row.orient, *orient);
-            assert_eq!(rt; row.count, *count);
-            assert_eq!(rt; row.step, *step);
+            same(&rt, row.name.bytes(), b"r".as_slice());
+            same(&rt, row.site.bytes(), b"s".as_slice());
+            same(&rt, (row.x, row.y), (-1, 2));
+            same(&rt, row.orient, *orient);
+            same(&rt, row.count, *count);
+            same(&rt, row.step, *step);
         }
     }
     Ok(())
@@ -182,12 +183,12 @@ fn components_and_their_first_place(rt: HostRuntime) -> Result<(), Fail> {
         let text = design_with(rt.alloc(), &middle)?;
         let design = read_design(rt.alloc(), &text)?;
         let components = design.components.as_slice();
-        assert_eq!(rt; components.len(), 2);
-        assert_eq!(rt; components[0].name.bytes(), b"u".as_slice());
-        assert_eq!(rt; components[0].cell.bytes(), b"c".as_slice());
-        assert_eq!(rt; components[0].place, *place);
-        assert_eq!(rt; components[1].name.bytes(), b"v".as_slice());
-        assert_eq!(rt; components[1].place, None);
+        assert!(rt; components.len() == 2);
+        same(&rt, components[0].name.bytes(), b"u".as_slice());
+        same(&rt, components[0].cell.bytes(), b"c".as_slice());
+        same(&rt, components[0].place, *place);
+        same(&rt, components[1].name.bytes(), b"v".as_slice());
+        same(&rt, components[1].place, None);
     }
     Ok(())
 }
@@ -202,15 +203,15 @@ fn blockages_of_each_part(rt: HostRuntime) -> Result<(), Fail> {
     let text = design_with(rt.alloc(), BLOCKED)?;
     let design = read_design(rt.alloc(), &text)?;
     let blockages = design.blockages.as_slice();
-    assert_eq!(rt; blockages.len(), 3);
-    assert_eq!(rt; blockages[0].layer.bytes(), b"m1".as_slice());
-    assert_eq!(rt; blockages[0].spacing, Some(7));
-    assert_eq!(rt; blockages[0].rect, rect(1, -6, 5, 2));
-    assert_eq!(rt; blockages[1].layer.bytes(), b"LAYER".as_slice());
-    assert_eq!(rt; blockages[1].spacing, None);
-    assert_eq!(rt; blockages[1].rect, rect(0, 0, 1, 1));
-    assert_eq!(rt; blockages[2].layer.bytes(), b"LAYER".as_slice());
-    assert_eq!(rt; blockages[2].rect, rect(3, 4, 3, 4));
+    assert!(rt; blockages.len() == 3);
+    same(&rt, blockages[0].layer.bytes(), b"m1".as_slice());
+    same(&rt, blockages[0].spacing, Some(7));
+    same(&rt, blockages[0].rect, rect(1, -6, 5, 2));
+    same(&rt, blockages[1].layer.bytes(), b"LAYER".as_slice());
+    same(&rt, blockages[1].spacing, None);
+    same(&rt, blockages[1].rect, rect(0, 0, 1, 1));
+    same(&rt, blockages[2].layer.bytes(), b"LAYER".as_slice());
+    same(&rt, blockages[2].rect, rect(3, 4, 3, 4));
     Ok(())
 }
 
@@ -222,13 +223,18 @@ fn regions_of_one_and_two_rectangles(rt: HostRuntime) -> Result<(), Fail> {
     let text = design_with(rt.alloc(), FENCED)?;
     let design = read_design(rt.alloc(), &text)?;
     let regions = design.regions.as_slice();
-    assert_eq!(rt; regions.len(), 2);
-    assert_eq!(rt; regions[0].name.bytes(), b"a".as_slice());
-    assert_eq!(rt; regions[0].rects.as_slice(), [rect(0, 2, 5, 9)].as_slice());
-    assert_eq!(rt; regions[1].name.bytes(), b"b".as_slice());
-    assert_eq!(rt;
+    assert!(rt; regions.len() == 2);
+    same(&rt, regions[0].name.bytes(), b"a".as_slice());
+    same(
+        &rt,
+        regions[0].rects.as_slice(),
+        [rect(0, 2, 5, 9)].as_slice(),
+    );
+    same(&rt, regions[1].name.bytes(), b"b".as_slice());
+    same(
+        &rt,
         regions[1].rects.as_slice(),
-        [rect(0, 0, 1, 1), rect(6, 5, 8, 7)].as_slice()
+        [rect(0, 0, 1, 1), rect(6, 5, 8, 7)].as_slice(),
     );
     Ok(())
 }
@@ -357,10 +363,11 @@ fn lef_and_def_refusals(rt: HostRuntime) {
             line: *line,
             word: *word,
         };
-        assert_eq!(rt;
+        same_at(
+            &rt,
             read_design(rt.alloc(), text).err(),
             Some(DefError { place, kind: *kind }),
-            "at {text:?}"
+            text,
         );
     }
 }
@@ -380,7 +387,7 @@ fn wires_of_a_placed_design_are_passed_over(rt: HostRuntime) -> Result<(), Fail>
         middle.extend_from_slice(b" COMPONENTS 1 ; - u c ; END COMPONENTS")?;
         let text = design_with(rt.alloc(), &middle)?;
         let design = read_placed(rt.alloc(), &text)?;
-        assert_eq!(rt; design.components.as_slice().len(), 1);
+        same(&rt, design.components.as_slice().len(), 1);
         let refused = read_design(rt.alloc(), &text).err();
         assert!(rt;
             refused.is_some_and(|error| error.kind == AlreadyRouted),
@@ -393,10 +400,11 @@ fn wires_of_a_placed_design_are_passed_over(rt: HostRuntime) -> Result<(), Fail>
             word: *word,
         };
         if *kind != AlreadyRouted {
-            assert_eq!(rt;
+            same_at(
+                &rt,
                 read_placed(rt.alloc(), text).err(),
                 Some(DefError { place, kind: *kind }),
-                "at {text:?}"
+                text,
             );
         }
     }

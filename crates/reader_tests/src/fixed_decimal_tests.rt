@@ -2,6 +2,7 @@
 
 ghost use Rattle.std.specs.Prelude.{◌≤◌, ◌^◌};
 
+use crate::same::{same, same_at};
 use DecimalError::{NotNumber, Range, Vanishes};
 use fixed_decimal::*;
 use std::alloc::{AllocError, Global};
@@ -340,11 +341,12 @@ fn check(rt: &impl Abort, rows: &[Row], places: u32, limit: u128)
     requires limit { limit ≤ 10 ^ 37 }
 {
     for (text, plain, scaled) in rows {
-        assert_eq!(rt; read(text, places, limit), *plain, "read of {text:?}");
-        assert_eq!(rt;
+        same_at(rt, read(text, places, limit), *plain, ("read of", text));
+        same_at(
+            rt,
             read_spice(text, places, limit),
             *scaled,
-            "read_spice of {text:?}"
+            ("read_spice of", text),
         );
     }
 }
@@ -363,33 +365,34 @@ fn texts_of_a_table(rt: HostRuntime) {
 #[test]
 fn spice_scales(rt: HostRuntime) {
     let limit = 1_000_000_000_000_000_000_000_000_000_000;
-    assert_eq!(rt; read_spice(b"1M", 15, limit), Ok(1_000_000_000_000));
-    assert_eq!(rt;
+    same(&rt, read_spice(b"1M", 15, limit), Ok(1_000_000_000_000));
+    same(
+        &rt,
         read_spice(b"1meg", 15, limit),
-        Ok(1_000_000_000_000_000_000_000)
+        Ok(1_000_000_000_000_000_000_000),
     );
-    assert_eq!(rt; read_spice(b"1mA", 15, limit), Ok(1_000_000_000_000));
-    assert_eq!(rt; read_spice(b"1.25e-05", 15, limit), Ok(12_500_000_000));
-    assert_eq!(rt; read_spice(b"1mil", 15, limit), Err(NotNumber));
+    same(&rt, read_spice(b"1mA", 15, limit), Ok(1_000_000_000_000));
+    same(&rt, read_spice(b"1.25e-05", 15, limit), Ok(12_500_000_000));
+    same(&rt, read_spice(b"1mil", 15, limit), Err(NotNumber));
 }
 
 #[test]
 fn decimals_at_the_edges(rt: HostRuntime) -> Result<(), Fail> {
-    assert_eq!(rt; read(b"0.5", 0, 1000), Ok(1));
-    assert_eq!(rt; read(b"-0.5", 0, 1000), Ok(-1));
-    assert_eq!(rt; read(b"0.4", 0, 1000), Err(Vanishes));
-    assert_eq!(rt; read(b".", 0, 1000), Err(NotNumber));
-    assert_eq!(rt; read(b"1001", 0, 1000), Err(Range));
+    same(&rt, read(b"0.5", 0, 1000), Ok(1));
+    same(&rt, read(b"-0.5", 0, 1000), Ok(-1));
+    same(&rt, read(b"0.4", 0, 1000), Err(Vanishes));
+    same(&rt, read(b".", 0, 1000), Err(NotNumber));
+    same(&rt, read(b"1001", 0, 1000), Err(Range));
     let alloc = rt.alloc();
     let mut out = Vec::new(alloc);
     print(&mut out, -5, 3)?;
-    assert_eq!(rt; out.as_slice(), b"-0.005".as_slice());
+    same(&rt, out.as_slice(), b"-0.005".as_slice());
     out.clear();
     print_down(&mut out, -5, 3, 2)?;
-    assert_eq!(rt; out.as_slice(), b"-0.01".as_slice());
+    same(&rt, out.as_slice(), b"-0.01".as_slice());
     out.clear();
     print_up(&mut out, -5, 3, 2)?;
-    assert_eq!(rt; out.as_slice(), b"0.00".as_slice());
+    same(&rt, out.as_slice(), b"0.00".as_slice());
     Ok(())
 }
 
@@ -477,7 +480,7 @@ fn printed_values(rt: HostRuntime) -> Result<(), Fail> {
         out.push(b' ')?;
         print_up(&mut out, value, places, shown)?;
         let want = format!(in alloc; "x {text} {down} {up}")?;
-        assert_eq!(rt; out.as_slice(), want.as_bytes());
+        same(&rt, out.as_slice(), want.as_bytes());
     }
     Ok(())
 }
@@ -494,33 +497,39 @@ fn after_zeros(alloc: Global, zeros: usize, exponent: &[u8]) -> Result<Vec<u8>, 
 fn long_texts(rt: HostRuntime) -> Result<(), Fail> {
     let alloc = rt.alloc();
     let limit = 1_000_000;
-    assert_eq!(rt;
+    same(
+        &rt,
         read(&after_zeros(alloc, 1002, b"1e1003")?, 3, limit),
-        Ok(100_000)
+        Ok(100_000),
     );
-    assert_eq!(rt;
+    same(
+        &rt,
         read(&after_zeros(alloc, 1002, b"15e998")?, 3, limit),
-        Ok(2)
+        Ok(2),
     );
-    assert_eq!(rt;
+    same(
+        &rt,
         read(&after_zeros(alloc, 1002, b"14e998")?, 3, limit),
-        Ok(1)
+        Ok(1),
     );
-    assert_eq!(rt;
+    same(
+        &rt,
         read_spice(&after_zeros(alloc, 1002, b"1e995k")?, 3, limit),
-        Ok(1)
+        Ok(1),
     );
-    assert_eq!(rt;
+    same(
+        &rt,
         read(&after_zeros(alloc, 1_000_000, b"1e999999")?, 3, limit),
-        Ok(1000)
+        Ok(1000),
     );
-    assert_eq!(rt;
+    same(
+        &rt,
         read(&vec![in alloc; b'9'; 1_000_000]?, 3, limit),
-        Err(Range)
+        Err(Range),
     );
     let mut text = vec![in alloc; b'3'; 1_000_000]?;
     text.extend_from_slice(b"e-999999")?;
-    assert_eq!(rt; read(&text, 3, limit), Ok(3333));
+    same(&rt, read(&text, 3, limit), Ok(3333));
     Ok(())
 }
 
@@ -561,7 +570,7 @@ const INTEGERS: [(&[u8], Result<i128, DecimalError>); 14] = [
 fn whole_numbers(rt: HostRuntime) {
     for (text, want) in INTEGERS {
         let answer = read_integer(text, 1000);
-        assert_eq!(rt; answer, want, "at {text:?}");
+        same_at(&rt, answer, want, text);
     }
 }
 
@@ -588,6 +597,6 @@ const SHORT: [(&[u8], bool); 16] = [
 #[test]
 fn short_numbers(rt: HostRuntime) {
     for (text, want) in SHORT {
-        assert_eq!(rt; is_short(text, 3, 2), want, "of {text:?}");
+        same_at(&rt, is_short(text, 3, 2), want, text);
     }
 }

@@ -1,4 +1,5 @@
 //! Texts whose records and refusals were worked out from the rules of the format: 1 µm is 10^6 pm.
+use crate::same::{same, same_at};
 use CellsKind::{BadString, Number, Syntax, Twice};
 use DecimalError::{NotNumber, Range, Vanishes};
 use fixed_decimal::DecimalError;
@@ -32,15 +33,16 @@ const GENERATED_SAYS: Said = Said {
 };
 
 fn compare(rt: &impl Abort, cells: &Cells, said: &Said) {
-    assert_eq!(rt; cells.sites.as_slice().len(), said.sites.len());
+    same(rt, cells.sites.as_slice().len(), said.sites.len());
     for (site, want) in cells.sites.as_slice().iter().zip(said.sites) {
-        assert_eq!(rt; (site.name.bytes(), site.width, site.height), *want);
+        same(rt, (site.name.bytes(), site.width, site.height), *want);
     }
-    assert_eq!(rt; cells.macros.as_slice().len(), said.macros.len());
+    same(rt, cells.macros.as_slice().len(), said.macros.len());
     for (cell, want) in cells.macros.as_slice().iter().zip(said.macros) {
-        assert_eq!(rt;
+        same(
+            rt,
             (cell.name.bytes(), cell.block, cell.width, cell.height),
-            *want
+            *want,
         );
     }
 }
@@ -194,10 +196,11 @@ fn refused_texts(rt: HostRuntime) {
             line: *line,
             word: *word,
         };
-        assert_eq!(rt;
+        same_at(
+            &rt,
             read_cells(rt.alloc(), text).err(),
             Some(CellsError { place, kind: *kind }),
-            "at {text:?}"
+            text,
         );
     }
 }

@@ -1,5 +1,6 @@
 //! Texts whose records and refusals were worked out from the rules of the format: 1 µm is 10^6 pm, 1 Ω is 10^9 nΩ, and
 //! 1 mA is 10^12 fA.
+use crate::same::{same, same_at};
 use TechKind::{BadString, BadTable, Number, Syntax, Twice, UnknownLayer};
 use fixed_decimal::DecimalError::{NotNumber, Range, Vanishes};
 use geom_rect::Axis;
@@ -45,48 +46,48 @@ struct Said {
 fn compare_density(rt: &impl Abort, density: &Density, said: &SaidDensity) {
     match (density, said) {
         (Density::Unlimited, SaidDensity::Unlimited) => {}
-        (Density::One(value), SaidDensity::One(want)) => assert_eq!(rt; *value, *want),
-        (Density::Table(points), SaidDensity::Table(want)) => {
-            assert_eq!(rt; points.as_slice(), *want)
-        }
+        (Density::One(value), SaidDensity::One(want)) => same(rt, *value, *want),
+        (Density::Table(points), SaidDensity::Table(want)) => { same(rt, points.as_slice(), *want) }
         _ => assert!(rt; false, "{density:?}"),
     }
 }
 
 fn compare_rule(rt: &impl Abort, rule: &ViaRule, said: &SaidRule) {
-    assert_eq!(rt; rule.name.bytes(), said.name);
-    assert_eq!(rt; (rule.lower, rule.upper, rule.cut), said.layers);
-    assert_eq!(rt;
+    same(rt, rule.name.bytes(), said.name);
+    same(rt, (rule.lower, rule.upper, rule.cut), said.layers);
+    same(
+        rt,
         (rule.lower_enclosure, rule.upper_enclosure),
-        said.enclosures
+        said.enclosures,
     );
-    assert_eq!(rt; (rule.lower_widths, rule.upper_widths), said.widths);
-    assert_eq!(rt; (rule.cut_x, rule.cut_y), said.cut);
-    assert_eq!(rt; (rule.pitch_x, rule.pitch_y), said.pitch);
-    assert_eq!(rt; rule.per_cut, said.per_cut);
+    same(rt, (rule.lower_widths, rule.upper_widths), said.widths);
+    same(rt, (rule.cut_x, rule.cut_y), said.cut);
+    same(rt, (rule.pitch_x, rule.pitch_y), said.pitch);
+    same(rt, rule.per_cut, said.per_cut);
 }
 
 fn compare(rt: &impl Abort, tech: &Tech, said: &Said) {
-    assert_eq!(rt; tech.order.as_slice(), said.order);
-    assert_eq!(rt; tech.routing.as_slice().len(), said.routing.len());
+    same(rt, tech.order.as_slice(), said.order);
+    same(rt, tech.routing.as_slice().len(), said.routing.len());
     for (layer, want) in tech.routing.as_slice().iter().zip(said.routing) {
-        assert_eq!(rt;
+        same(
+            rt,
             (
                 layer.name.bytes(),
                 layer.direction,
                 layer.spacing,
-                layer.sheet
+                layer.sheet,
             ),
-            (want.0, want.1, want.2, want.3)
+            (want.0, want.1, want.2, want.3),
         );
         compare_density(rt, &layer.density, &want.4);
     }
-    assert_eq!(rt; tech.cuts.as_slice().len(), said.cuts.len());
+    same(rt, tech.cuts.as_slice().len(), said.cuts.len());
     for (layer, want) in tech.cuts.as_slice().iter().zip(said.cuts) {
-        assert_eq!(rt; (layer.name.bytes(), layer.per_cut), (want.0, want.1));
+        same(rt, (layer.name.bytes(), layer.per_cut), (want.0, want.1));
         compare_density(rt, &layer.density, &want.2);
     }
-    assert_eq!(rt; tech.rules.as_slice().len(), said.rules.len());
+    same(rt, tech.rules.as_slice().len(), said.rules.len());
     for (rule, want) in tech.rules.as_slice().iter().zip(said.rules) {
         compare_rule(rt, rule, want);
     }
@@ -477,9 +478,9 @@ fn rules_that_are_kept(rt: HostRuntime) -> Result<(), Fail> {
             text.extend_from_slice(piece)?;
         }
         let tech = read_tech(rt.alloc(), &text)?;
-        assert_eq!(rt; tech.rules.as_slice().len(), *count, "of {rule:?}");
+        same_at(&rt, tech.rules.as_slice().len(), *count, rule);
         for rule in tech.rules.as_slice() {
-            assert_eq!(rt; (rule.lower, rule.upper, rule.cut), (0, 1, 0));
+            same(&rt, (rule.lower, rule.upper, rule.cut), (0, 1, 0));
         }
     }
     Ok(())
@@ -672,10 +673,11 @@ fn refused_texts(rt: HostRuntime) {
             line: *line,
             word: *word,
         };
-        assert_eq!(rt;
+        same_at(
+            &rt,
             read_tech(rt.alloc(), text).err(),
             Some(TechError { place, kind: *kind }),
-            "at {text:?}"
+            text,
         );
     }
 }

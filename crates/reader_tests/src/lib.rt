@@ -18,6 +18,8 @@ mod macro_blocks_tests;
 #[cfg(test)]
 mod pdn_script_tests;
 #[cfg(test)]
+mod same;
+#[cfg(test)]
 mod script_options_tests;
 #[cfg(test)]
 mod text_lex_tests;

@@ -1,4 +1,5 @@
 //! Texts whose records and refusals were worked out from the rules of the format: 1 µm is 10^6 pm.
+use crate::same::{same, same_at};
 use BlocksKind::{BadString, Number, Origin, Syntax};
 use DecimalError::{NotNumber, Range, Vanishes};
 use fixed_decimal::DecimalError;
@@ -25,27 +26,28 @@ struct SaidMacro {
 }
 
 fn compare_rects(rt: &impl Abort, rects: &[BlockRect], said: &[SaidRect]) {
-    assert_eq!(rt; rects.len(), said.len());
+    same(rt, rects.len(), said.len());
     for (rect, want) in rects.iter().zip(said) {
-        assert_eq!(rt;
+        same(
+            rt,
             (rect.layer.bytes(), rect.x1, rect.y1, rect.x2, rect.y2),
-            *want
+            *want,
         );
     }
 }
 
 fn compare_pins(rt: &impl Abort, pins: &[BlockPin], said: &[SaidPin]) {
-    assert_eq!(rt; pins.len(), said.len());
+    same(rt, pins.len(), said.len());
     for (pin, want) in pins.iter().zip(said) {
-        assert_eq!(rt; (pin.name.bytes(), pin.power), (want.name, want.power));
+        same(rt, (pin.name.bytes(), pin.power), (want.name, want.power));
         compare_rects(rt, pin.rects.as_slice(), want.rects);
     }
 }
 
 fn compare(rt: &impl Abort, blocks: &Blocks, said: &[SaidMacro]) {
-    assert_eq!(rt; blocks.macros.as_slice().len(), said.len());
+    same(rt, blocks.macros.as_slice().len(), said.len());
     for (cell, want) in blocks.macros.as_slice().iter().zip(said) {
-        assert_eq!(rt; cell.name.bytes(), want.name);
+        same(rt, cell.name.bytes(), want.name);
         compare_pins(rt, cell.pins.as_slice(), want.pins);
         compare_rects(rt, cell.obstructions.as_slice(), want.obstructions);
     }
@@ -300,10 +302,11 @@ fn refused_texts(rt: HostRuntime) {
             line: *line,
             word: *word,
         };
-        assert_eq!(rt;
+        same_at(
+            &rt,
             read_blocks(rt.alloc(), text).err(),
             Some(BlocksError { place, kind: *kind }),
-            "at {text:?}"
+            text,
         );
     }
 }

@@ -1,4 +1,5 @@
 //! Scripts that are read, and scripts that are refused.
+use crate::same::{same, same_at};
 use fixed_decimal::DecimalError;
 use outside::Place;
 use pdn_script::*;
@@ -183,8 +184,8 @@ fn script_refusals(rt: HostRuntime) {
         match read_script(rt.alloc(), text) {
             Ok(_) => panic!(rt; "not refused: {text:?}"),
             Err(error) => {
-                assert_eq!(rt; error.kind, kind, "at {text:?}");
-                assert_eq!(rt; error.place, Place { line, word }, "at {text:?}");
+                same_at(&rt, error.kind, kind, text);
+                same_at(&rt, error.place, Place { line, word }, text);
             }
         }
     }
@@ -198,8 +199,8 @@ fn refusals_after_a_grid(rt: HostRuntime) {
         match read_script(rt.alloc(), &whole) {
             Ok(_) => panic!(rt; "not refused: {text:?}"),
             Err(error) => {
-                assert_eq!(rt; error.kind, kind, "at {text:?}");
-                assert_eq!(rt; error.place, Place { line: 3, word }, "at {text:?}");
+                same_at(&rt, error.kind, kind, text);
+                same_at(&rt, error.place, Place { line: 3, word }, text);
             }
         }
     }
@@ -289,10 +290,10 @@ fn generated_script(rt: HostRuntime) {
             .iter()
             .all(|domain| is_core(domain))
     );
-    assert_eq!(rt; script.domains.as_slice().len(), 1);
-    assert_eq!(rt; script.grids.as_slice().len(), 2);
-    assert_eq!(rt; script.stripes.as_slice().len(), 3);
-    assert_eq!(rt; script.connects.as_slice().len(), 2);
+    same(&rt, script.domains.as_slice().len(), 1);
+    same(&rt, script.grids.as_slice().len(), 2);
+    same(&rt, script.stripes.as_slice().len(), 3);
+    same(&rt, script.connects.as_slice().len(), 2);
     assert!(rt;
         script
             .grids
@@ -326,7 +327,7 @@ fn generated_script(rt: HostRuntime) {
 #[test]
 fn empty_script(rt: HostRuntime) {
     match read_script(rt.alloc(), b"") {
-        Ok(script) => assert_eq!(rt; script.domains.as_slice().len(), 0),
+        Ok(script) => same(&rt, script.domains.as_slice().len(), 0),
         Err(error) => panic!(rt; "refused: {error:?}"),
     }
 }

@@ -1,4 +1,5 @@
 //! The table, and the values of options.
+use crate::same::{same, same_at};
 use fixed_decimal::DecimalError;
 use number_place::Refused;
 use script_options::*;
@@ -63,19 +64,24 @@ const VALUES: [(ValueForm, &[u8], Option<Refused>); 24] = [
 #[test]
 fn values(rt: HostRuntime) {
     for (form, text, refused) in VALUES {
-        assert_eq!(rt; value_refused(form, text), refused, "at {text:?}");
+        same_at(&rt, value_refused(form, text), refused, text);
     }
 }
 
 #[test]
 fn numbers(rt: HostRuntime) {
-    assert_eq!(rt; number_in(Quantity::Width, b"0.48"), Some(480_000));
-    assert_eq!(rt; number_in(Quantity::Length, b"1e5"), Some(100_000_000_000));
-    assert_eq!(rt; number_in(Quantity::Count, b"12"), Some(12));
+    same(&rt, number_in(Quantity::Width, b"0.48"), Some(480_000));
+    same(
+        &rt,
+        number_in(Quantity::Length, b"1e5"),
+        Some(100_000_000_000),
+    );
+    same(&rt, number_in(Quantity::Count, b"12"), Some(12));
     match numbers_in(rt.alloc(), Quantity::Length, b"1 2\n0.5") {
-        Ok(values) => assert_eq!(rt;
+        Ok(values) => same(
+            &rt,
             values.as_slice(),
-            [1_000_000, 2_000_000, 500_000].as_slice()
+            [1_000_000, 2_000_000, 500_000].as_slice(),
         ),
         Err(_) => panic!(rt; "refused"),
     }
@@ -83,30 +89,42 @@ fn numbers(rt: HostRuntime) {
 
 #[test]
 fn names_of_commands_and_options(rt: HostRuntime) {
-    assert_eq!(rt; command_named(b"global_connect"), Command::PassedOver);
-    assert_eq!(rt; command_named(b"Pdngen"), Command::Unknown);
-    assert_eq!(rt;
+    same(&rt, command_named(b"global_connect"), Command::PassedOver);
+    same(&rt, command_named(b"Pdngen"), Command::Unknown);
+    same(
+        &rt,
         option_named(b"-grid_over_pg_pins"),
-        ScriptOption::GridOverPgPins
+        ScriptOption::GridOverPgPins,
     );
-    assert_eq!(rt; option_named(b"-secondary_power"), ScriptOption::LeftOut);
-    assert_eq!(rt; option_named(b"grid"), ScriptOption::Unknown);
+    same(
+        &rt,
+        option_named(b"-secondary_power"),
+        ScriptOption::LeftOut,
+    );
+    same(&rt, option_named(b"grid"), ScriptOption::Unknown);
 }
 
 #[test]
 fn rows_of_the_table(rt: HostRuntime) {
-    assert_eq!(rt;
+    same(
+        &rt,
         need_of(Command::AddPdnStripe, ScriptOption::Width),
-        Some(Need::Required)
+        Some(Need::Required),
     );
-    assert_eq!(rt;
+    same(
+        &rt,
         need_of(Command::AddPdnStripe, ScriptOption::Pitch),
-        Some(Need::RequiredOfStraps)
+        Some(Need::RequiredOfStraps),
     );
-    assert_eq!(rt;
+    same(
+        &rt,
         need_of(Command::DefinePdnGrid, ScriptOption::Halo),
-        Some(Need::OfMacroGrids)
+        Some(Need::OfMacroGrids),
     );
-    assert_eq!(rt; need_of(Command::AddPdnConnect, ScriptOption::Region), None);
-    assert_eq!(rt; need_of(Command::Pdngen, ScriptOption::Name), None);
+    same(
+        &rt,
+        need_of(Command::AddPdnConnect, ScriptOption::Region),
+        None,
+    );
+    same(&rt, need_of(Command::Pdngen, ScriptOption::Name), None);
 }

@@ -1,4 +1,5 @@
 //! Texts whose words, forms and places were counted by hand.
+use crate::same::{same, same_at};
 use std::alloc::Global;
 use std::fmt::Write;
 use std::process::Abort;
@@ -13,7 +14,7 @@ fn told(rt: &impl Abort, alloc: Global, text: &[u8], mode: Mode) -> Result<Strin
         let place = words.place();
         match words.next() {
             Ok(Some(word)) => {
-                assert_eq!(rt; word.place, place);
+                same(rt, word.place, place);
                 let bytes = std::str::from_utf8(word.text)?;
                 write!(out, "{}:{} ", place.line, place.word)?;
                 match word.form {
@@ -30,14 +31,14 @@ fn told(rt: &impl Abort, alloc: Global, text: &[u8], mode: Mode) -> Result<Strin
                 return Ok(out);
             }
             Err(refusal) => {
-                assert_eq!(rt; refusal.place, place);
+                same(rt, refusal.place, place);
                 for _ in 0..3 {
                     match words.next() {
-                        Err(again) => assert_eq!(rt; again, refusal),
+                        Err(again) => same(rt, again, refusal),
                         Ok(_) => return Err(Fail::from("went on after a refusal")),
                     }
                 }
-                assert_eq!(rt; words.place(), place);
+                same(rt, words.place(), place);
                 write!(out, "{}:{} {:?}", place.line, place.word, refusal.kind)?;
                 return Ok(out);
             }
@@ -50,7 +51,7 @@ fn told(rt: &impl Abort, alloc: Global, text: &[u8], mode: Mode) -> Result<Strin
 fn try_all(rt: &impl Abort, alloc: Global, mode: Mode, table: &[(&str, &str)]) -> Result<(), Fail> {
     for (text, want) in table {
         let found = told(rt, alloc, text.as_bytes(), mode)?;
-        assert_eq!(rt; found.as_str(), *want, "at {text:?}");
+        same_at(rt, found.as_str(), *want, text);
     }
     Ok(())
 }

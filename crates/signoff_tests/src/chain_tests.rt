@@ -1,5 +1,6 @@
 //! The commands with the program's own solver, over files in memory.
 use crate::runs::ran;
+use crate::same::same;
 use multilevel_solve::Multilevel;
 use outside::{MemFiles, Name};
 use std::alloc::{AllocError, Global};
@@ -29,14 +30,14 @@ fn a_long_chain_is_solved(rt: HostRuntime) -> Result<(), Fail> {
 
     let solve = "solve|--netlist|net|--certificate|cert|--report|report";
     let (status, out) = ran(alloc, solve, &mut files, 0, &mut solver)?;
-    assert_eq!(rt; status, 0);
+    same(&rt, status, 0);
     assert!(rt;
         out.bytes()
             .starts_with(b"solved 2001 nodes 2000 resistors ")
     );
     let check = "check|--netlist|net|--certificate|cert";
     let (status, out) = ran(alloc, check, &mut files, 0, &mut solver)?;
-    assert_eq!(rt; status, 0);
-    assert_eq!(rt; out.bytes(), b"certified 2001 nodes\n".as_slice());
+    same(&rt, status, 0);
+    same(&rt, out.bytes(), b"certified 2001 nodes\n".as_slice());
     Ok(())
 }

@@ -3,6 +3,7 @@ ghost use Rattle.std.specs.Prelude.{None};
 ghost use Rattle.outside.specs.Calls.{counts_of};
 
 use crate::runs::ran;
+use crate::same::same;
 use grid_net::Fixed;
 use outside::{Files, MemFiles, Name, Refusal};
 use std::alloc::{AllocError, Global};
@@ -77,8 +78,8 @@ fn ends(
     };
     let mut solver = Fixed::new(Vec::new(alloc), Vec::new(alloc));
     let (found, out) = ran(alloc, words, &mut files, failing_write, &mut solver)?;
-    assert_eq!(rt; found, status);
-    assert_eq!(rt; out.bytes(), line);
+    same(rt, found, status);
+    same(rt, out.bytes(), line);
     Ok(())
 }
 

@@ -1,5 +1,6 @@
 //! Runs of `generate` over files and a sink in memory.
 use crate::runs::ran;
+use crate::same::same;
 use grid_gen::{CELLS, SCRIPT, TECHNOLOGY, generate};
 use grid_net::Fixed;
 use outside::{MemFiles, Name};
@@ -25,8 +26,8 @@ fn ends(
     let mut files = MemFiles::new(alloc, Vec::new(alloc), failing)?;
     let mut solver = Fixed::new(Vec::new(alloc), Vec::new(alloc));
     let (found, out) = ran(alloc, words, &mut files, failing_write, &mut solver)?;
-    assert_eq!(rt; found, status);
-    assert_eq!(rt; out.bytes(), line);
+    same(rt, found, status);
+    same(rt, out.bytes(), line);
     Ok(files)
 }
 

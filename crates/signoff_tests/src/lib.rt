@@ -18,6 +18,8 @@ mod macro_tests;
 #[cfg(test)]
 mod runs;
 #[cfg(test)]
+mod same;
+#[cfg(test)]
 mod signed_tests;
 #[cfg(test)]
 mod solve_tests;

@@ -1,6 +1,7 @@
 //! Runs of `signoff` on the small design with a grid that is wired, over files and a sink in memory.
 use crate::build_texts::{BIAS, NETLIST, REPORT};
 use crate::runs::ran;
+use crate::same::same;
 use grid_gen::{CELLS, TECHNOLOGY};
 use grid_net::Fixed;
 use outside::{MemFiles, Name};
@@ -144,7 +145,7 @@ fn ends(
     let mut files = MemFiles::new(alloc, held(alloc, inputs)?, failing)?;
     let mut solver = Fixed::new(Vec::new(alloc), Vec::new(alloc));
     let (found, out) = ran(alloc, WORDS, &mut files, 0, &mut solver)?;
-    assert_eq!(rt; found, status);
+    same(rt, found, status);
     assert!(rt; out.bytes().starts_with(line), "the line");
     assert!(rt;
         files.bytes("wires") == Some(inputs.wires),
@@ -182,8 +183,8 @@ fn the_grid_of_build(rt: HostRuntime) -> Result<(), Fail> {
     let check = "check|--netlist|net|--certificate|cert";
     let mut solver = Fixed::new(Vec::new(alloc), Vec::new(alloc));
     let (found, out) = ran(alloc, check, &mut files, 0, &mut solver)?;
-    assert_eq!(rt; found, 0);
-    assert_eq!(rt; out.bytes(), b"certified 12 nodes\n".as_slice());
+    same(&rt, found, 0);
+    same(&rt, out.bytes(), b"certified 12 nodes\n".as_slice());
     Ok(())
 }
 

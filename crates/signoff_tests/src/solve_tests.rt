@@ -1,5 +1,6 @@
 //! Runs of `solve` over files and a sink in memory, with a solver that tells its lists.
 use crate::runs::ran;
+use crate::same::same;
 use grid_net::Fixed;
 use outside::{MemFiles, Name};
 use std::alloc::{AllocError, Global};
@@ -60,8 +61,8 @@ fn holds(rt: &(impl Abort + AllocGlobal), row: &Row<'_>) -> Result<(), AllocErro
         998_999_999_999_899_000_000_000,
     )?;
     let (found, out) = ran(alloc, row.words, &mut files, row.failing_write, &mut solver)?;
-    assert_eq!(rt; found, row.status);
-    assert_eq!(rt; out.bytes(), row.line);
+    same(rt, found, row.status);
+    same(rt, out.bytes(), row.line);
     assert!(rt;
         files.bytes("net") == Some(row.netlist),
         "the netlist stays"
@@ -330,14 +331,14 @@ fn a_bad_proposal_is_solved(rt: HostRuntime) -> Result<(), Fail> {
     let mut files = MemFiles::new(alloc, held, Vec::new(alloc))?;
     let mut solver = solver(alloc, i128::MIN, i128::MAX)?;
     let (found, _) = ran(alloc, WORDS, &mut files, 0, &mut solver)?;
-    assert_eq!(rt; found, 0);
+    same(&rt, found, 0);
     assert!(rt;
         files.bytes("report") == Some(REPORT),
         "the tightness allows no other digits"
     );
     let check = "check|--netlist|net|--certificate|cert";
     let (found, out) = ran(alloc, check, &mut files, 0, &mut solver)?;
-    assert_eq!(rt; found, 0);
-    assert_eq!(rt; out.bytes(), b"certified 2 nodes\n".as_slice());
+    same(&rt, found, 0);
+    same(&rt, out.bytes(), b"certified 2 nodes\n".as_slice());
     Ok(())
 }

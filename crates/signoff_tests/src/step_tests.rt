@@ -1,5 +1,6 @@
 //! Runs of `step` over files and a sink in memory.
 use crate::runs::ran;
+use crate::same::same;
 use grid_net::hostile::Everywhere;
 use outside::{MemFiles, Name};
 use std::alloc::{AllocError, Global};
@@ -75,8 +76,8 @@ fn holds(rt: &(impl Abort + AllocGlobal), row: &Row<'_>) -> Result<(), AllocErro
     let mut files = MemFiles::new(alloc, held(alloc, row)?, failing)?;
     let mut solver = Everywhere::new(0);
     let (found, out) = ran(alloc, row.words, &mut files, row.failing_write, &mut solver)?;
-    assert_eq!(rt; out.bytes(), row.line);
-    assert_eq!(rt; found, row.status);
+    same(rt, out.bytes(), row.line);
+    same(rt, found, row.status);
     assert!(rt;
         files.bytes("net") == Some(row.netlist),
         "the netlist stays"
@@ -134,7 +135,7 @@ fn a_certificate_for_each_step(rt: HostRuntime) -> Result<(), Fail> {
     let none = vec![in alloc; (Name::new(alloc, b"")?, 0)]?;
     let mut files = MemFiles::new(alloc, held(alloc, &FIRST)?, none)?;
     let (status, _) = ran(alloc, WORDS, &mut files, 0, &mut Everywhere::new(0))?;
-    assert_eq!(rt; status, 0);
+    same(&rt, status, 0);
     let text = files.bytes("cert").unwrap_or(b"".as_slice());
     assert!(rt;
         text.starts_with(b"step 0\npdn certificate 1\nn 99900000"),

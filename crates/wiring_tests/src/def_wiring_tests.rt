@@ -1,4 +1,5 @@
 //! Texts whose records and refusals were worked out from the rules of the format.
+use crate::same::{same, same_at};
 use DecimalError::{NotNumber, Range};
 use Shape::{FollowPin, Ring, Stripe};
 use WiresKind::{BadString, Number, Syntax, Twice, UnknownVia, ViaForm, WireForm};
@@ -24,31 +25,33 @@ struct SaidNet {
 }
 
 fn compare_segments(rt: &impl Abort, segments: &[Segment], said: &[SaidSegment]) {
-    assert_eq!(rt; segments.len(), said.len());
+    same(rt, segments.len(), said.len());
     for (segment, want) in segments.iter().zip(said) {
-        assert_eq!(rt;
+        same(
+            rt,
             (segment.layer.bytes(), segment.width, segment.shape),
-            (want.0, want.1, want.2)
+            (want.0, want.1, want.2),
         );
-        assert_eq!(rt; (segment.x1, segment.y1, segment.e1), want.3);
-        assert_eq!(rt; (segment.x2, segment.y2, segment.e2), want.4);
+        same(rt, (segment.x1, segment.y1, segment.e1), want.3);
+        same(rt, (segment.x2, segment.y2, segment.e2), want.4);
     }
 }
 
 fn compare_places(rt: &impl Abort, places: &[ViaPlace], said: &[SaidPlace]) {
-    assert_eq!(rt; places.len(), said.len());
+    same(rt, places.len(), said.len());
     for (place, want) in places.iter().zip(said) {
-        assert_eq!(rt;
+        same(
+            rt,
             (place.via.bytes(), place.layer.bytes(), place.x, place.y),
-            *want
+            *want,
         );
     }
 }
 
 fn compare_nets(rt: &impl Abort, nets: &[WiredNet], said: &[SaidNet]) {
-    assert_eq!(rt; nets.len(), said.len());
+    same(rt, nets.len(), said.len());
     for (net, want) in nets.iter().zip(said) {
-        assert_eq!(rt; (net.name.bytes(), net.power), (want.name, want.power));
+        same(rt, (net.name.bytes(), net.power), (want.name, want.power));
         compare_segments(rt, net.segments.as_slice(), want.segments);
         compare_places(rt, net.vias.as_slice(), want.vias);
     }
@@ -137,18 +140,18 @@ const WIRED_SAYS: [SaidNet; 2] = [
 fn vias_and_nets_of_a_design(rt: HostRuntime) -> Result<(), Fail> {
     let wires = read_wires(rt.alloc(), WIRED)?;
     let vias = wires.vias.as_slice();
-    assert_eq!(rt; vias.len(), 2);
+    same(&rt, vias.len(), 2);
     for (via, want) in vias.iter().zip(&[
         [b"via1_2".as_slice(), b"Via1", b"metal1", b"via1", b"metal2"],
         [b"N", b"R2", b"a", b"b", b"c"],
     ]) {
-        assert_eq!(rt; names(via), *want);
+        assert!(rt; names(via) == *want);
     }
     for (via, want) in vias.iter().zip(&[
         [140, 150, 160, 0, 70, 0, 1, 71, 1, 3],
         [1, 1, 0, 0, 0, 0, 0, 0, 1, 1],
     ]) {
-        assert_eq!(rt; numbers(via), *want);
+        same(&rt, numbers(via), *want);
     }
     compare_nets(&rt, wires.nets.as_slice(), &WIRED_SAYS);
     Ok(())
@@ -504,10 +507,11 @@ fn refused_texts(rt: HostRuntime) {
             line: *line,
             word: *word,
         };
-        assert_eq!(rt;
+        same_at(
+            &rt,
             read_wires(rt.alloc(), text).err(),
             Some(WiresError { place, kind: *kind }),
-            "at {text:?}"
+            text,
         );
     }
 }

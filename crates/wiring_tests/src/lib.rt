@@ -5,3 +5,5 @@
 
 #[cfg(test)]
 mod def_wiring_tests;
+#[cfg(test)]
+mod same;

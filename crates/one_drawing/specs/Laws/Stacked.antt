@@ -32,7 +32,8 @@ pub record OneStack : Type 0 where
 
 -- ## sites
 
-one_sites : (P : Site → Type 0) (a b : List Site) → AreSites P a → AreSites P b → a ≡ b
+-- The sites of pieces are one list.
+pub one_sites : (P : Site → Type 0) (a b : List Site) → AreSites P a → AreSites P b → a ≡ b
 one_sites P a b x y =
     same_list (λ (s t : Site). is_lt (site_order s t) ≡ true) sites_one_way a b x.in_order y.in_order (λ site has. y.every site (All-contains P a site x.each has))
     (λ site has. x.every site (All-contains P b site y.each has))
@@ -70,6 +71,11 @@ one_stacks known P tech units pieces a b x y =
     one_stacks_at known tech units y.0 a b (subst (λ (s : List Site). AreStacksAt tech units s a) sites x.3) y.3
 
 -- ## refusals
+
+-- A drawing is refused for want of memory or for another reason.
+pub is_want : (e : DrawError) → (e ≡ errors.Want) ⊎ (e ≢ errors.Want)
+is_want errors.Want = inl refl
+is_want e = inr (λ same. absurd (cc))
 
 -- two at one place are one
 pub same_at : {X : Type 0} (xs : List X) (k : ℕ) (x y : X) → At xs k x → At xs k y → x ≡ y

@@ -5,6 +5,7 @@ pub mod Junctions
 pub mod Spots
 pub mod Ends
 pub mod Wires
+pub mod WireEnds
 pub mod Arrays
 pub mod Noted
 pub mod Moved
@@ -14,6 +15,7 @@ pub mod Names
 pub mod Places
 pub mod Measured
 pub mod Placed
+pub mod Questions
 pub mod Ended
 pub mod Ruled
 pub mod Assembled

@@ -18,6 +18,7 @@ use crate::note::notes;
 use crate::number::{Numbers, number_of};
 use crate::pad::{PadOn, Tap};
 use crate::place::{key_on, places};
+use crate::question::numbers_of_taps;
 use crate::row::{Row, branches_of, resistors_of, rows};
 use entry_list::Entries;
 use grid_net::{Load, Net, NetError, Pad, Quantity};
@@ -61,21 +62,6 @@ fn pad_of(pieces: &[Piece], nodes: Numbers, pad: &PadOn) -> Pad
     }
 }
 
-// A load on its node.
-fn load_of(pieces: &[Piece], nodes: Numbers, tap: &Tap) -> Load
-    requires numbers { length nodes.numbers.now ≡ length nodes.places.now }
-    requires piece { tap.now.piece < length pieces.now }
-    ensures { (keys : List Key) → TellsNumbers keys nodes.entry.places.now nodes.entry.numbers.now
-        → result
-        ≡ record { node = number_of keys (key_at pieces.now tap.now.piece tap.now.along); low = tap.now.low; high = tap.now.high } }
-{
-    Load {
-        node: number_of(nodes, &place_of(pieces, tap.piece, tap.along)),
-        low: tap.low,
-        high: tap.high,
-    }
-}
-
 // The pads on their nodes.
 fn pads_of(
     alloc: Global,
@@ -96,6 +82,17 @@ fn pads_of(
     Ok(standing)
 }
 
+// A load on the node with a number.
+fn load_at(node: u32, tap: &Tap) -> Load
+    ensures { result ≡ record { node = node; low = tap.now.low; high = tap.now.high } }
+{
+    Load {
+        node,
+        low: tap.low,
+        high: tap.high,
+    }
+}
+
 // The loads on their nodes.
 fn loads_of(
     alloc: Global,
@@ -109,9 +106,10 @@ fn loads_of(
         → standing.items
         ≡ map (λ t. record { node = number_of keys (key_at pieces.now t.piece t.along); low = t.low; high = t.high }) taps.now) }
 {
+    let numbers = numbers_of_taps(alloc, nodes, pieces, taps)?;
     let mut standing = Vec::with_capacity(alloc, taps.len())?;
-    for tap in taps {
-        standing.push(load_of(pieces, nodes, tap))?;
+    for (at, tap) in taps.iter().enumerate() {
+        standing.push(load_at(numbers[at], tap))?;
     }
     Ok(standing)
 }

@@ -21,6 +21,7 @@ mod number;
 mod order;
 mod pad;
 mod place;
+mod question;
 mod row;
 mod segment;
 mod sorted;

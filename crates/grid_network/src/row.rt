@@ -1,12 +1,12 @@
 //! The resistors with what they are.
-ghost use Rattle.std.specs.Prelude.{◌≡◌, ℕ, ◌+◌, ◌<◌, ◌^◌, ◌++◌, ◌-◌, pos, ◌≤ℤ◌, ◌-ℤ◌, ◌*ℤ◌, List, All, IfOk, OnOk, length, map, slice_get};
-ghost use Rattle.std.specs.Option.{option_to_list};
+ghost use Rattle.std.specs.Prelude.{◌≡◌, ℕ, ◌+◌, ◌<◌, ◌^◌, ◌++◌, ◌-◌, pos, ◌≤ℤ◌, ◌-ℤ◌, ◌*ℤ◌, min, max, List, All, IfOk, OnOk, length, map, slice_get};
+ghost use Rattle.std.specs.Option.{option_map, option_to_list};
 ghost use Rattle.lef_tech.specs.declared.tech.Tech.{Tech};
 ghost use Rattle.grid_network.specs.declared.key.Key.{Key};
 ghost use Rattle.grid_network.specs.declared.segment.Segment.{Segment};
 ghost use Rattle.grid_network.specs.Listing.{ListsAll, EachOnce};
-ghost use Rattle.grid_network.specs.Drawing.{Drawing, key_on, IsJunction};
-ghost use Rattle.grid_network.specs.Nodes.{IsNode};
+ghost use Rattle.grid_network.specs.Drawing.{Drawing, key_at, key_on, IsJunction};
+ghost use Rattle.grid_network.specs.Nodes.{IsNode, number_of};
 ghost use Rattle.grid_network.specs.Segments.{nearest, wire_ohms, cut_array, IsSegment, AreSegments};
 ghost use Rattle.grid_network.specs.inside.Steps.{TellsNumbers, row_of_segment, wire_to, wires_below, arrays_below, cuts_below, AreAlong, IsMeasured, IsStacked};
 
@@ -16,6 +16,7 @@ use crate::junction::Junction;
 use crate::key::Key;
 use crate::number::{Numbers, number_of};
 use crate::place::{key_of_stack, key_on};
+use crate::question::numbers_of_junctions;
 use crate::segment::Segment;
 use grid_net::Resistor;
 use grid_pieces::{Grid, Piece, StackAt};
@@ -65,6 +66,18 @@ fn wire_ohms(layers: &[RoutingLayer], piece: &Piece, long: i64) -> i128
     nearest(number, i128::from(piece.width)).max(1)
 }
 
+// The row of a segment between two nodes, which are given by their numbers.
+fn row_between(i: u32, j: u32, segment: &Segment) -> Row
+    ensures { result ≡ record { a = min i j; b = max i j; branch = segment.now.branch; ohms = segment.now.ohms } }
+{
+    Row {
+        a: i.min(j),
+        b: i.max(j),
+        branch: segment.branch,
+        ohms: segment.ohms,
+    }
+}
+
 // The row of a segment.
 fn row_of(nodes: Numbers, segment: &Segment) -> Row
     requires { length nodes.numbers.now ≡ length nodes.places.now }
@@ -73,12 +86,7 @@ fn row_of(nodes: Numbers, segment: &Segment) -> Row
 {
     let i = number_of(nodes, &segment.first);
     let j = number_of(nodes, &segment.second);
-    Row {
-        a: i.min(j),
-        b: i.max(j),
-        branch: segment.branch,
-        ohms: segment.ohms,
-    }
+    row_between(i, j, segment)
 }
 
 // The point of a junction of a piece.
@@ -144,36 +152,57 @@ fn wire_to(
     Some(wire_between(layers, &pieces[far.piece as usize], near, far))
 }
 
-// Adds the row of a segment, if there is one.
-fn add_row(rows: &mut Vec<Row>, nodes: Numbers, segment: Option<Segment>) -> Result<(), AllocError>
-    requires { length nodes.numbers.now ≡ length nodes.places.now }
-    ensures { OnOk result ((keys : List Key) → TellsNumbers keys nodes.entry.places.now nodes.entry.numbers.now
-        → rows.new.items ≡ rows.old.items ++ map (row_of_segment keys) (option_to_list segment)) }
-{
-    let Some(segment) = segment else {
-        return Ok(());
-    };
-    rows.push(row_of(nodes, &segment))?;
-    Ok(())
-}
-
-// Adds the rows of the wires.
-fn add_wires(
-    rows: &mut Vec<Row>,
-    nodes: Numbers,
+// The row of the wire that ends at a junction, if there is one, where `ends` are the numbers of the junctions.
+fn wire_row(
     layers: &[RoutingLayer],
     pieces: &[Piece],
     junctions: &[Junction],
-) -> Result<(), AllocError>
-    requires numbers { length nodes.numbers.now ≡ length nodes.places.now }
+    ends: &[u32],
+    i: usize,
+) -> Option<Row>
+    requires within { i < length junctions.now }
     requires pieces { All IsMeasured pieces.now }
     requires junctions { AreAlong pieces.now junctions.now }
-    ensures { OnOk result ((keys : List Key) → TellsNumbers keys nodes.entry.places.now nodes.entry.numbers.now
+    requires one_each { length ends.now ≡ length junctions.now }
+    ensures { (keys : List Key) → ends.now ≡ map (λ j. number_of keys (key_at pieces.now j.piece j.along)) junctions.now
+        → result ≡ option_map (row_of_segment keys) (wire_to layers.now pieces.now junctions.now i) }
+{
+    if i == 0 {
+        return None;
+    }
+    match wire_to(layers, pieces, junctions, i) {
+        Some(wire) => Some(row_between(ends[i - 1], ends[i], &wire)),
+        None => None,
+    }
+}
+
+// Adds a row, if there is one.
+fn add_row(rows: &mut Vec<Row>, row: Option<Row>) -> Result<(), AllocError>
+    ensures { OnOk result (rows.new.items ≡ rows.old.items ++ option_to_list row) }
+{
+    if let Some(row) = row {
+        rows.push(row)?;
+    }
+    Ok(())
+}
+
+// Adds the rows of the wires, where `ends` are the numbers of the junctions.
+fn add_wires(
+    rows: &mut Vec<Row>,
+    layers: &[RoutingLayer],
+    pieces: &[Piece],
+    junctions: &[Junction],
+    ends: &[u32],
+) -> Result<(), AllocError>
+    requires pieces { All IsMeasured pieces.now }
+    requires junctions { AreAlong pieces.now junctions.now }
+    requires one_each { length ends.now ≡ length junctions.now }
+    ensures { OnOk result ((keys : List Key) → ends.now ≡ map (λ j. number_of keys (key_at pieces.now j.piece j.along)) junctions.now
         → rows.new.items
         ≡ rows.old.items ++ map (row_of_segment keys) (wires_below layers.now pieces.now junctions.now (length junctions.now))) }
 {
     for i in 0..junctions.len() {
-        add_row(rows, nodes, wire_to(layers, pieces, junctions, i))?;
+        add_row(rows, wire_row(layers, pieces, junctions, ends, i))?;
     }
     Ok(())
 }
@@ -250,8 +279,10 @@ fn all_rows(
         → (segments : List Segment) × (rows.items ≡ map (row_of_segment keys) segments)
         × ListsAll (IsSegment d tech) segments × EachOnce segments) }
 {
+    let pieces = grid.pieces.as_slice();
+    let ends = numbers_of_junctions(alloc, nodes, pieces, junctions)?;
     let mut rows = Vec::new(alloc);
-    add_wires(&mut rows, nodes, layers, grid.pieces.as_slice(), junctions)?;
+    add_wires(&mut rows, layers, pieces, junctions, &ends)?;
     add_stacks(&mut rows, nodes, grid.stacks.as_slice())?;
     Ok(rows)
 }

@@ -93,11 +93,28 @@ pub fn without_cell(
 ) -> Result<Option<u64>, AllocError>
     ensures { IfOk result (IsFirst (NamesNoCell cells.now design.now bias.now)) }
 {
-    let macros = table_of(alloc, cells.macros.as_slice())?;
-    let components = table_of(alloc, design.components.as_slice())?;
-    let cell = first_unknown(&macros, bias.cells.as_slice());
-    let instance = first_unknown(&components, bias.instances.as_slice());
+    let cell = first_naming_none(alloc, cells.macros.as_slice(), bias.cells.as_slice())?;
+    let instance = first_naming_none(
+        alloc,
+        design.components.as_slice(),
+        bias.instances.as_slice(),
+    )?;
     Ok(lesser(cell, instance))
+}
+
+// The least line of these that names none of the items. Only where there is a line are the names put into a table.
+fn first_naming_none<N: Named, T: Line>(
+    alloc: Global,
+    items: &[N],
+    lines: &[T],
+) -> Result<Option<u64>, AllocError>
+    ensures { IfOk result (IsFirst (NamesNone T.line_of T.name_of (map N.name_of items.now) lines.now)) }
+{
+    if lines.is_empty() {
+        return Ok(None);
+    }
+    let names = table_of(alloc, items)?;
+    Ok(first_unknown(&names, lines))
 }
 
 // The least line of these that names none of the names.

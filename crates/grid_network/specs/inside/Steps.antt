@@ -25,6 +25,7 @@ use Rattle.grid_network.specs.declared.branch.Branch.{Branch}
 use Rattle.grid_network.specs.declared.branch.Branch.TheVariants.{Wire, Cuts}
 use Rattle.grid_network.specs.declared.junction.Junction.{Junction}
 use Rattle.grid_network.specs.declared.key.Key.{Key}
+use Rattle.grid_network.specs.declared.question.Question.{Question}
 use Rattle.grid_network.specs.declared.row.Row.{Row}
 use Rattle.grid_network.specs.declared.segment.Segment.{Segment}
 use Rattle.grid_network.specs.declared.spot.Spot.{Spot}
@@ -117,6 +118,10 @@ pub record TellsNumbers (keys places : List Key) (numbers : List ℕ) : Type 0 w
   pub told : (i : ℕ) → i < length places → slice_get keys (slice_index numbers i) ≡ slice_get places i
   pub once : (i j : ℕ) (d : Key) → i < j → j < length keys → slice_index_or keys i d ≢ slice_index_or keys j d
   pub same : (key : Key) → Contains keys key → Contains places key
+
+-- the points that are asked for have their places as their numbers
+abbrev pub AreInTurn : List Question → Type 0
+AreInTurn questions = (i : ℕ) (d : Question) → i < length questions → (slice_index_or questions i d).at ≡ i
 
 -- ---- segments
 

@@ -1,0 +1,11 @@
+use Rattle.std.proofs.Common.{◌∙◌}
+use Rattle.grid_network.specs.declared.junction.Junction.{Junction}
+use Rattle.grid_network.specs.Drawing.{key_at}
+use Rattle.grid_network.specs.Nodes.{number_of}
+use Rattle.grid_network.proofs.Questions.{made_of_keys}
+use Rattle.grid_network.proofs.question.numbers_of_junctions.Goals as goal
+
+pub returns-clause-numbers : goal.returns-clause-numbers
+returns-clause-numbers c keys told =
+    c.in_ok-numbers.ensures.numbers keys told
+    ∙ made_of_keys (number_of keys) (λ (j : Junction). key_at c.args.pieces.now j.piece j.along) c.in_ok-questions.questions.items c.args.junctions.now c.in_ok-questions.ensures.asked

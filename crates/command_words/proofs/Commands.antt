@@ -1,8 +1,7 @@
 -- The commands that words are.
-use Rattle.std.proofs.Common.{◌≡◌, ◌≢◌, ℕ, zero, suc, ◌+◌, ◌<◌, ◌≤◌, ◌^◌, List, [], ◌∷◌, length, take, get_or, All, Contains, Bool, true, false, ◌&&◌, ◌==◌, not, codes, Some, Result, Ok, Err, refl, sym, ◌∙◌, ap, subst, arith}
+use Rattle.std.proofs.Common.{◌≡◌, ◌≢◌, ℕ, ◌+◌, ◌<◌, ◌≤◌, ◌^◌, List, [], ◌∷◌, length, take, get_or, Contains, Bool, true, false, ◌&&◌, codes, Some, Result, Ok, Err, refl, sym, ◌∙◌, ap, subst, arith}
 use Rattle.std.specs.List.{list_all}
 use Rattle.std.specs.Str.Parse.{digits_value}
-use Rattle.std.proofs.lemmas.List.Elements.{All-nil, All-cons, All-contains}
 use Rattle.std.specs.Prelude.{ℤ, pos, negsuc}
 use Rattle.number_place.specs.declared.place.NumberPlace.{NumberPlace}
 use Rattle.number_place.specs.declared.place.Refused.{Refused}
@@ -20,8 +19,9 @@ use Rattle.command_words.specs.declared.command.Command.TheVariants.{Build, Solv
 use Rattle.command_words.specs.declared.command.WordsError.{WordsError}
 use Rattle.command_words.specs.Setting.{SetsEach, values_of}
 use Rattle.command_words.specs.Words.{build_options, solve_options, check_options, step_options, signoff_options, generate_options, AreApart, IsNumber, IsTime, seconds, IsStep, IsGenerate, IsCommand, IsUsage}
-use Rattle.command_words.specs.inside.Split.{HasNoEquals, texts, IsBuildOf, IsSolveOf, IsStepOf, IsSignoffOf, IsGenerateOf}
-use Rattle.command_words.proofs.Spelling.{settings_once, others_are, option_more, first_word, text_at}
+use Rattle.command_words.specs.inside.Split.{texts, IsBuildOf, IsSolveOf, IsStepOf, IsSignoffOf, IsGenerateOf}
+use Rattle.command_words.proofs.Spelling.{settings_once, others_are, option_more, first_word, text_at, plain}
+use Rattle.command_words.specs.inside.Parsed.{has_no_equals}
 use Rattle.std.specs.Borrow.{Bor}
 use Rattle.std.specs.Prelude.{IsTrue, ◌↔◌, ◌-◌, drop}
 use Rattle.std.specs.Result.{OkIff}
@@ -34,36 +34,9 @@ use Rattle.std.proofs.lemmas.List.{length-map, length-take, get_or-take, get_or-
 use Rattle.std.proofs.lemmas.List.Quantifiers.{all_pairs_push}
 use Rattle.std.proofs.lemmas.List.Elements.{Contains-get_or}
 use Rattle.std.specs.Str.Parse.{AllDigits, ParsesUnsigned}
+use Rattle.command_words.proofs.Truth.{two}
 
--- ## options have no `=`
-
-abbrev plain_text : List ℕ → Bool
-plain_text text = list_all (λ byte. not (byte == 61)) text
-
-abbrev plain_list : List (List ℕ) → Bool
-plain_list options = list_all plain_text options
-
-two : (a b : Bool) → (a && b) ≡ true → (a ≡ true) × (b ≡ true)
-two true true h = (refl, refl)
-two true false h = (refl, h)
-two false b h = absurd (let t : false ≡ true = h in cc)
-
-plain_byte : (byte : ℕ) → not (byte == 61) ≡ true → byte ≢ 61
-plain_byte byte h = grind (arith, h)
-
-text_plain : (text : List ℕ) → plain_text text ≡ true → HasNoEquals text
-text_plain [] h i k = absurd (omega arith)
-text_plain (x ∷ xs) h zero k = plain_byte x (two (not (x == 61)) (plain_text xs) h).0
-text_plain (x ∷ xs) h (suc i) k = text_plain xs (two (not (x == 61)) (plain_text xs) h).1 i (omega arith)
-
-all_plain : (options : List (List ℕ)) → plain_list options ≡ true → All HasNoEquals options
-all_plain [] h = All-nil HasNoEquals
-all_plain (x ∷ xs) h = let t = two (plain_text x) (plain_list xs) h in All-cons HasNoEquals x xs (text_plain x t.0) (all_plain xs t.1)
-
-pub plain : (options : List (List ℕ)) → plain_list options ≡ true → (option : List ℕ) → Contains options option → HasNoEquals option
-plain options h option known = All-contains HasNoEquals options option (all_plain options h) known
-
-pub each_once : (options words a b : List (List ℕ)) → plain_list options ≡ true → SetsEach options words a → SetsEach options words b → a ≡ b
+pub each_once : (options words a b : List (List ℕ)) → list_all has_no_equals options ≡ true → SetsEach options words a → SetsEach options words b → a ≡ b
 each_once options words a b h x y =
     let same = settings_once options words x.settings y.settings (plain options h) x.are y.are in
     let t : Some a ≡ Some b = sym x.values_are ∙ ap (λ z. values_of z options) same ∙ y.values_are in
@@ -339,7 +312,7 @@ made_signoff words values (Step a b t s c d) made each apart = absurd made
 
 -- ## values that are not apart
 
-pub not_apart : (options words : List (List ℕ)) (items : List (Bor (List ℕ))) (n : ℕ) (values : List (List ℕ)) (is : Bool) → plain_list options ≡ true → SetsEach options words (texts items) →
+pub not_apart : (options words : List (List ℕ)) (items : List (Bor (List ℕ))) (n : ℕ) (values : List (List ℕ)) (is : Bool) → list_all has_no_equals options ≡ true → SetsEach options words (texts items) →
     SetsEach options words values → IsTrue is ↔ AreApart (texts (take (length items - n) (drop n items))) → is ≡ false → AreApart (drop n values) → ⊥
 not_apart options words items n values is h a b tells refused apart =
     let same : texts items ≡ values = each_once options words (texts items) values h a b in

@@ -1,2 +1,7 @@
-pub mod Spelling
+pub mod Bridge
 pub mod Commands
+pub mod Counted
+pub mod Each
+pub mod Spelling
+pub mod Taken
+pub mod Truth

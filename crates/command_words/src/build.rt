@@ -7,20 +7,8 @@ use crate::apart::are_apart;
 use crate::command::{Command, WordsError};
 use crate::file_name::FileName;
 use crate::settings::option_values;
+use crate::table::BUILD;
 use std::alloc::{AllocError, Global};
-
-/// The options of `build`.
-const BUILD: [&str; 9] = [
-    "--lef",
-    "--cells",
-    "--def",
-    "--pdn",
-    "--bias",
-    "--out-def",
-    "--netlist",
-    "--certificate",
-    "--report",
-];
 
 /// The command `build` of the values of its options.
 fn build_of(alloc: Global, values: &[&str]) -> Result<Command, AllocError>

@@ -10,6 +10,7 @@ use crate::generate::generate;
 use crate::short::{check, solve};
 use crate::signoff::signoff;
 use crate::step::step;
+use crate::table::{BUILD, CHECK, GENERATE, SIGNOFF, SOLVE, STEP};
 use number_place::texts_have_one_number;
 use outside::Argv;
 use std::alloc::Global;
@@ -134,22 +135,22 @@ fn command_of(alloc: Global, words: &[&str]) -> Result<Command, WordsError>
     }
     let name = words[0];
     let others = &words[1..];
-    if name == "build" {
+    if name == BUILD.word {
         return build(alloc, others);
     }
-    if name == "solve" {
+    if name == SOLVE.word {
         return solve(alloc, others);
     }
-    if name == "check" {
+    if name == CHECK.word {
         return check(alloc, others);
     }
-    if name == "generate" {
+    if name == GENERATE.word {
         return generate(alloc, others);
     }
-    if name == "step" {
+    if name == STEP.word {
         return step(alloc, others);
     }
-    if name == "signoff" {
+    if name == SIGNOFF.word {
         return signoff(alloc, others);
     }
     Err(WordsError::Usage)
@@ -160,18 +161,12 @@ fn command_of(alloc: Global, words: &[&str]) -> Result<Command, WordsError>
 /// A command has a name, and then its options in any order, each once, as `--x v` or `--x=v`. A value is not empty, does
 /// not begin with `-` and has no line feed in it.
 ///
-/// | Command | Options |
-/// |---|---|
-/// | `build` | `--lef --cells --def --pdn --bias --out-def --netlist --certificate --report` |
-/// | `solve` | `--netlist --certificate --report` |
-/// | `check` | `--netlist --certificate` |
-/// | `generate` | `--number --side --lef --cells --def --pdn --bias` |
-/// | `step` | `--netlist --waves --time --steps --certificate --report` |
-/// | `signoff` | `--lef --cells --def --wires --bias --netlist --certificate --report` |
+/// `COMMANDS` has the commands with their options.
 ///
-/// The files that a command writes have different names: of `build` the last four, of `signoff` the last three, of `solve`
-/// and `step` the last two, of `generate` all. A number is ASCII digits: that of `--number` fits 64 bits, that of `--side` is from 24 to 300, that of
-/// `--steps` from 1 to 1000. That of `--time` is in seconds, with a scale or none, at 18 places, above 0 and at most 1 s.
+/// The files that a command writes have different names: of `build` the last four of its options, of `signoff` the last
+/// three, of `solve` and `step` the last two, of `generate` the last five. A number is ASCII digits: that of `--number` fits
+/// 64 bits, that of `--side` is from 24 to 300, that of `--steps` from 1 to 1000. That of `--time` is in seconds, with a scale
+/// or none, at 18 places, above 0 and at most 1 s.
 ///
 /// `Usage` comes exactly where the words are those of no command.
 pub fn read(alloc: Global, words: &Argv) -> Result<Command, WordsError>

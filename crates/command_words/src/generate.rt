@@ -8,12 +8,8 @@ use crate::command::{Command, WordsError};
 use crate::file_name::FileName;
 use crate::number::{number_of, side_of};
 use crate::settings::option_values;
+use crate::table::GENERATE;
 use std::alloc::{AllocError, Global};
-
-/// The options of `generate`.
-const GENERATE: [&str; 7] = [
-    "--number", "--side", "--lef", "--cells", "--def", "--pdn", "--bias",
-];
 
 /// The command `generate` of a number, a side, and the values of its options.
 fn generate_of(

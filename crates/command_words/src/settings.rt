@@ -1,24 +1,15 @@
-//! Options and their values among the words.
-ghost use Rattle.std.specs.Prelude.{◌≡◌, ◌<◌, ◌≤◌, ◌↔◌, ◌++◌, ◌∷◌, ℕ, List, All, Contains, IfNone, IfSome, IfOk, IsTrue, Some, None, Err, length, drop};
-ghost use Rattle.command_words.specs.Setting.{IsValue, Sets, AreSettings, value_of, values_of, SetsEach};
-ghost use Rattle.command_words.specs.inside.Split.{HasNoEquals, IsFirst, texts, pair_of, pairs};
+//! The values of options among the words.
+ghost use Rattle.std.specs.Prelude.{◌≡◌, ◌↔◌, ℕ, List, All, Contains, IfNone, IfSome, IfOk, IsTrue, Some, Err, true, length};
+ghost use Rattle.clap.specs.Words.{first_value, found_of};
+ghost use Rattle.command_words.specs.Setting.{IsValue, SetsEach};
+ghost use Rattle.command_words.specs.inside.Parsed.{are_names, dashed_all, names, values_by};
+ghost use Rattle.command_words.specs.inside.Split.{texts};
 
 use crate::command::WordsError;
+use crate::parsed::matches_for;
+use crate::table::{CommandText, OptionText};
+use clap::ArgMatches;
 use std::alloc::Global;
-
-/// An option that is set to a value.
-#[derive(Clone, Copy, Debug)]
-pub(crate) struct Setting<'a> {
-    pub(crate) option: &'a str,
-    pub(crate) value: &'a str,
-}
-
-/// What the first words set, and how many words these are.
-#[derive(Clone, Copy, Debug)]
-struct First<'a> {
-    setting: Setting<'a>,
-    count: usize,
-}
 
 /// Whether the word may be the value of an option: it is not empty, does not begin with `-` and has no line feed in it.
 fn is_value(word: &str) -> bool
@@ -32,118 +23,44 @@ fn is_value(word: &str) -> bool
 }
 
 /// Whether the word is one of these.
-pub(crate) fn is_among(options: &[&str], word: &str) -> bool
-    ensures { IsTrue result ↔ Contains (texts options.now) word.now }
+pub(crate) fn is_among(words: &[&str], word: &str) -> bool
+    ensures { IsTrue result ↔ Contains (texts words.now) word.now }
 {
-    for option in options {
-        if *option == word {
+    for other in words {
+        if *other == word {
             return true;
         }
     }
     false
 }
 
-/// The option and the value in `--x=v`.
-fn at_equals(word: &str) -> Option<(&str, &str)>
-    ensures none { IfNone result (HasNoEquals word.now) }
-    ensures parts { IfSome result (λ parts. word.now ≡ parts.0.now ++ (61 ∷ parts.1.now)) }
-    ensures first { IfSome result (λ parts. HasNoEquals parts.0.now) }
+/// The value that the parse gave the option, if it may be one.
+fn value_of<'a>(matches: &ArgMatches<'a>, name: &str) -> Option<&'a str>
+    ensures none { IfNone result
+        ((value : List ℕ) → first_value (found_of matches.now) name.now ≡ Some value → ¬ IsValue value) }
+    ensures some { IfSome result (λ value. first_value (found_of matches.now) name.now ≡ Some value.now) }
+    ensures is_value { IfSome result (λ value. IsValue value.now) }
 {
-    word.split_once('=')
+    let value = matches.get_str(name)?;
+    if is_value(value) { Some(value) } else { None }
 }
 
-/// The option set to the value by so many words, where it is one of the options and the value may be one.
-fn set<'a>(options: &[&str], option: &'a str, value: &'a str, count: usize) -> Option<First<'a>>
-    ensures none { IfNone result (Contains (texts options.now) option.now → IsValue value.now → ⊥) }
-    ensures known { IfSome result (λ first. Contains (texts options.now) option.now) }
-    ensures is_value { IfSome result (λ first. IsValue value.now) }
-    ensures is { IfSome result (λ first. (pair_of first.setting ≡ (option.now, value.now)) × (first.count ≡ count)) }
-{
-    if !is_among(options, option) {
-        return None;
-    }
-    if !is_value(value) {
-        return None;
-    }
-    let setting = Setting { option, value };
-    Some(First { setting, count })
-}
-
-/// What the first of the words set, if they set something.
-fn first_setting<'a>(options: &[&str], words: &[&'a str]) -> Option<First<'a>>
-    requires { All HasNoEquals (texts options.now) }
-    ensures none { IfNone result ((option value : List ℕ) (others : List (List ℕ)) → Contains (texts options.now) option
-        → Sets option value (texts words.now) others → ⊥) }
-    ensures sets { IfSome result (λ first. IsFirst (texts options.now) (texts words.now) (pair_of first.setting)
-        first.count) }
-    ensures count { IfSome result (λ first. (0 < first.count) × (first.count ≤ length words.now)) }
-{
-    if words.is_empty() {
-        return None;
-    }
-    let word = words[0];
-    if let Some((option, value)) = at_equals(word) {
-        return set(options, option, value, 1);
-    }
-    if words.len() == 1 {
-        return None;
-    }
-    set(options, word, words[1], 2)
-}
-
-/// The settings that the words are, one after the other.
-fn all_settings<'a>(
-    alloc: Global,
-    options: &[&str],
-    words: &[&'a str],
-) -> Result<Vec<Setting<'a>>, WordsError>
-    requires { All HasNoEquals (texts options.now) }
-    ensures settings { IfOk result
-        (λ settings. AreSettings (texts options.now) (pairs settings.items) (texts words.now)) }
-    ensures usage { result ≡ Err WordsError.Usage → (settings : List (List ℕ × List ℕ)) →
-        ¬ AreSettings (texts options.now) settings (texts words.now) }
-{
-    let mut settings = Vec::new(alloc);
-    let mut others = words;
-    while !others.is_empty() {
-        let Some(first) = first_setting(options, others) else {
-            return Err(WordsError::Usage);
-        };
-        let Ok(()) = settings.push(first.setting) else {
-            return Err(WordsError::Want);
-        };
-        others = &others[first.count..];
-    }
-    Ok(settings)
-}
-
-/// The value to which the option is set first.
-fn value_of<'a>(settings: &[Setting<'a>], option: &str) -> Option<&'a str>
-    ensures none { IfNone result (value_of (pairs settings.now) option.now ≡ None) }
-    ensures some { IfSome result (λ value. value_of (pairs settings.now) option.now ≡ Some value.now) }
-{
-    for setting in settings {
-        if setting.option == option {
-            return Some(setting.value);
-        }
-    }
-    None
-}
-
-/// The values of the options, in their order.
+/// The values that the parse gave the options, in their order, if each may be one.
 fn values_of<'a>(
     alloc: Global,
-    settings: &[Setting<'a>],
-    options: &[&str],
+    matches: &ArgMatches<'a>,
+    options: &[OptionText],
 ) -> Result<Vec<&'a str>, WordsError>
-    ensures values { IfOk result
-        (λ values. values_of (pairs settings.now) (texts options.now) ≡ Some (texts values.items)) }
+    ensures values { IfOk result (λ values. values_by (first_value (found_of matches.now)) (names options.now)
+        ≡ Some (texts values.items)) }
+    ensures are_values { IfOk result (λ values. All IsValue (texts values.items)) }
     ensures count { IfOk result (λ values. length values.items ≡ length options.now) }
-    ensures usage { result ≡ Err WordsError.Usage → values_of (pairs settings.now) (texts options.now) ≡ None }
+    ensures usage { result ≡ Err WordsError.Usage → (values : List (List ℕ)) →
+        values_by (first_value (found_of matches.now)) (names options.now) ≡ Some values → ¬ All IsValue values }
 {
     let mut values = Vec::new(alloc);
     for option in options {
-        let Some(value) = value_of(settings, *option) else {
+        let Some(value) = value_of(matches, option.name) else {
             return Err(WordsError::Usage);
         };
         let Ok(()) = values.push(value) else {
@@ -154,23 +71,26 @@ fn values_of<'a>(
 }
 
 /// The values of the options, in their order, where the words set each of them once and nothing else.
+///
+/// The parse takes `--` at the end, and a value that is empty or begins with `-`, which no command has.
 pub(crate) fn option_values<'a>(
     alloc: Global,
-    options: &[&str],
-    words: &[&'a str],
+    text: &CommandText,
+    words: &'a [&'a str],
 ) -> Result<Vec<&'a str>, WordsError>
-    requires { All HasNoEquals (texts options.now) }
-    ensures values { IfOk result (λ values. SetsEach (texts options.now) (texts words.now) (texts values.items)) }
-    ensures count { IfOk result (λ values. length values.items ≡ length options.now) }
+    requires { are_names (names text.now.options.now) ≡ true }
+    ensures values { IfOk result
+        (λ values. SetsEach (dashed_all (names text.now.options.now)) (texts words.now) (texts values.items)) }
+    ensures count { IfOk result (λ values. length values.items ≡ length text.now.options.now) }
     ensures usage { result ≡ Err WordsError.Usage → (values : List (List ℕ)) →
-        ¬ SetsEach (texts options.now) (texts words.now) values }
+        ¬ SetsEach (dashed_all (names text.now.options.now)) (texts words.now) values }
 {
-    let settings = match all_settings(alloc, options, words) {
-        Ok(settings) => settings,
-        Err(error) => return Err(error),
-    };
-    if settings.len() != options.len() {
+    if is_among(words, "--") {
         return Err(WordsError::Usage);
     }
-    values_of(alloc, &settings, options)
+    let matches = match matches_for(alloc, text, words) {
+        Ok(matches) => matches,
+        Err(error) => return Err(error),
+    };
+    values_of(alloc, &matches, text.options)
 }

@@ -7,13 +7,8 @@ use crate::apart::are_apart;
 use crate::command::{Command, WordsError};
 use crate::file_name::FileName;
 use crate::settings::option_values;
+use crate::table::{CHECK, SOLVE};
 use std::alloc::{AllocError, Global};
-
-/// The options of `check`.
-const CHECK: [&str; 2] = ["--netlist", "--certificate"];
-
-/// The options of `solve`.
-const SOLVE: [&str; 3] = ["--netlist", "--certificate", "--report"];
 
 /// The command `check` over the words after its name.
 pub(crate) fn check(alloc: Global, words: &[&str]) -> Result<Command, WordsError>

@@ -7,6 +7,7 @@ use crate::apart::are_apart;
 use crate::command::{Command, WordsError};
 use crate::file_name::FileName;
 use crate::settings::option_values;
+use crate::table::SIGNOFF;
 use std::alloc::{AllocError, Global};
 
 /// The command `signoff` of the values of its options.
@@ -25,18 +26,6 @@ fn signoff_of(alloc: Global, values: &[&str]) -> Result<Command, AllocError>
         report: FileName::new(alloc, values[7])?,
     })
 }
-
-/// The options of `signoff`.
-const SIGNOFF: [&str; 8] = [
-    "--lef",
-    "--cells",
-    "--def",
-    "--wires",
-    "--bias",
-    "--netlist",
-    "--certificate",
-    "--report",
-];
 
 /// The command `signoff` over the words after its name.
 pub(crate) fn signoff(alloc: Global, words: &[&str]) -> Result<Command, WordsError>

@@ -8,17 +8,8 @@ use crate::command::{Command, WordsError};
 use crate::file_name::FileName;
 use crate::number::{steps_of, time_of};
 use crate::settings::option_values;
+use crate::table::STEP;
 use std::alloc::{AllocError, Global};
-
-/// The options of `step`.
-const STEP: [&str; 6] = [
-    "--time",
-    "--steps",
-    "--netlist",
-    "--waves",
-    "--certificate",
-    "--report",
-];
 
 /// The command `step` of a time, a number of steps, and the values of its options.
 fn step_of(alloc: Global, time: u128, steps: u32, values: &[&str]) -> Result<Command, AllocError>

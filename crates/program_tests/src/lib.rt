@@ -12,6 +12,8 @@ mod input_files_tests;
 #[cfg(test)]
 mod output_files_tests;
 #[cfg(test)]
+mod random_words_tests;
+#[cfg(test)]
 mod refusal_words_tests;
 #[cfg(test)]
 mod same;

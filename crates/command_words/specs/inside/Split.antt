@@ -1,28 +1,11 @@
 -- What the reader needs of options, inside this crate.
 use Rattle.command_words.specs.declared.command.Command.{Command}
 use Rattle.command_words.specs.declared.command.Command.TheVariants.{Build, Solve, Step, Signoff, Generate}
-use Rattle.std.specs.Prelude.{◌≡◌, [], ◌∷◌, ◌≢◌, ℕ, ◌<◌, List, length, Contains, drop, slice_index, map}
-use Rattle.command_words.specs.Setting.{Sets}
+use Rattle.std.specs.Prelude.{◌≡◌, [], ◌∷◌, ℕ, List, map}
 use Rattle.std.specs.Borrow.{Bor}
-use Rattle.command_words.specs.declared.settings.Setting.{Setting}
-
--- No `=` (byte 61) stands in the text.
-abbrev pub HasNoEquals : List ℕ → Type 0
-HasNoEquals text = (i : ℕ) → i < length text → slice_index text i ≢ 61
 
 abbrev pub texts : List (Bor (List ℕ)) → List (List ℕ)
 texts words = map (λ word. word.now) words
-
-abbrev pub pair_of : Setting → List ℕ × List ℕ
-pair_of setting = (setting.option.now, setting.value.now)
-
-abbrev pub pairs : List Setting → List (List ℕ × List ℕ)
-pairs settings = map pair_of settings
-
--- The first so many of the words make this setting.
-pub record IsFirst (options words : List (List ℕ)) (setting : List ℕ × List ℕ) (count : ℕ) : Type 0 where
-  pub known : Contains options setting.0
-  pub sets : Sets setting.0 setting.1 words (drop count words)
 
 -- The command of the values of its options.
 abbrev pub IsBuildOf : List (List ℕ) → Command → Type 0

@@ -1,22 +1,38 @@
-use Rattle.std.proofs.Common.{◌≡◌, ◌≢◌, rules, Some, None, length, sym, ◌∙◌, ap}
-use Rattle.std.proofs.lemmas.List.{length-map}
-use Rattle.std.proofs.lemmas.List.Elements.{All-contains}
-use Rattle.command_words.specs.Setting.{values_of}
-use Rattle.command_words.specs.inside.Split.{HasNoEquals, texts, pair_of, pairs}
-use Rattle.command_words.proofs.Spelling.{settings_once}
+use Rattle.std.proofs.Common.{◌≡◌, All, true, false, Some, Err, sym, ◌∙◌, ap}
+use Rattle.clap.proofs.WalkLemmas.{first_value-rows}
+use Rattle.clap.specs.Walk.{first_of}
+use Rattle.clap.specs.Words.{first_value, found_of}
+use Rattle.command_words.specs.Setting.{IsValue, SetsEach}
+use Rattle.command_words.specs.inside.Parsed.{dashed_all, names, values_by}
+use Rattle.command_words.specs.inside.Split.{texts}
+use Rattle.command_words.proofs.Each.{both_ok, error_of, parses, sets_each, values_same}
 use Rattle.command_words.proofs.settings.option_values.Goals as goal
 
-pub returns-then-len-options-clause-usage : goal.returns-then-len-options-clause-usage
-returns-then-len-options-clause-usage c = λ e values h.
-    let options = texts c.args.options.now in
-    let same = settings_once options (texts c.args.words.now) h.settings (pairs c.in-Ok.settings.items) (λ option known. All-contains HasNoEquals options option c.requires known) h.are c.in-Ok.ensures.settings in
-    let other : length c.in-Ok.settings.items ≢ length c.args.options.now = search rules in
-    other (sym (length-map c.in-Ok.settings.items pair_of) ∙ sym (ap length same) ∙ h.as_many ∙ length-map c.args.options.now (λ word. word.now))
+pub returns-then-is_among-clause-usage : goal.returns-then-is_among-clause-usage
+returns-then-is_among-clause-usage c = λ e values h.
+    let p = parses c.args.text.now.name.now (names c.args.text.now.options.now) (texts c.args.words.now) values c.requires h in
+    p.no_dashes (c.is_among.ensures.0 c.if-is_among.true)
+
+pub returns-in-Err-clause-usage : goal.returns-in-Err-clause-usage
+returns-in-Err-clause-usage c = λ e values h.
+    let p = parses c.args.text.now.name.now (names c.args.text.now.options.now) (texts c.args.words.now) values c.requires h in
+    c.matches_for.ensures.usage (c.in-Err.is ∙ ap (λ z. Err z) (error_of _ _ e)) p.no_fault
 
 pub returns-clause-usage : goal.returns-clause-usage
 returns-clause-usage c = λ e values h.
-    let options = texts c.args.options.now in
-    let same = settings_once options (texts c.args.words.now) h.settings (pairs c.in-Ok.settings.items) (λ option known. All-contains HasNoEquals options option c.requires known) h.are c.in-Ok.ensures.settings in
-    let none : values_of (pairs c.in-Ok.settings.items) options ≡ None = search rules in
-    let t : None ≡ Some values = sym none ∙ sym (ap (λ z. values_of z options) same) ∙ h.values_are in
-    absurd (cc)
+    let ns = names c.args.text.now.options.now in
+    let found = found_of c.in-Ok.matches in
+    let p = parses c.args.text.now.name.now ns (texts c.args.words.now) values c.requires h in
+    let by_rows = values_same (first_value found) _ ns (λ n. first_value-rows found n ∙ ap (λ z. first_of n z) c.in-Ok.ensures.rows) in
+    c.values_of.ensures.usage e values (by_rows ∙ p.values_are) p.are_values
+
+pub returns-clause-values : goal.returns-clause-values
+returns-clause-values c =
+    let name = c.args.text.now.name.now in
+    let ns = names c.args.text.now.options.now in
+    let words = texts c.args.words.now in
+    let found = found_of c.in-Ok.matches in
+    let by_rows = values_same (first_value found) _ ns (λ n. first_value-rows found n ∙ ap (λ z. first_of n z) c.in-Ok.ensures.rows) in
+    both_ok (λ values. values_by (first_value found) ns ≡ Some (texts values.items)) (λ values. All IsValue (texts values.items)) (λ values. SetsEach (dashed_all ns) words (texts values.items))
+    c.values_of.result c.values_of.ensures.values c.values_of.ensures.are_values
+    (λ values is all. sets_each name ns words (texts values.items) c.requires (λ there. let bad : false ≡ true = sym c.if-is_among.false ∙ c.is_among.ensures.1 there in cc) c.in-Ok.ensures.taken (sym by_rows ∙ is) all)

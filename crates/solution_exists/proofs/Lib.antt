@@ -1,0 +1,11 @@
+pub mod Linear
+pub mod Combined
+pub mod Nothing
+pub mod System
+pub mod Unique
+pub mod Plain
+pub mod Routes
+pub mod Carried
+pub mod ByGroups
+pub mod Supply
+pub mod Pads

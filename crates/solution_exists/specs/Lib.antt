@@ -1,0 +1,4 @@
+pub mod Existence
+pub mod Branches
+pub mod Shorted
+pub mod Laws

@@ -1,0 +1,4 @@
+pub mod Steps
+pub mod Existing
+pub mod Unique
+pub mod Lows

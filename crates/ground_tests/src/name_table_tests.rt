@@ -1,9 +1,10 @@
 use crate::same::{same, same_at};
 use name_table::*;
-use std::test::Fail;
+use std::alloc::Global;
+use std::process::Abort;
 
 // Names in the order in which they come, with the number of each, counted by hand.
-const NAMES: [(&[u8], u32); 9] = [
+static NAMES: [(&[u8], u32); 9] = [
     (b"n1_0_0", 0),
     (b"__", 1),
     (b"n1_0_0", 0),
@@ -15,32 +16,47 @@ const NAMES: [(&[u8], u32); 9] = [
     (b"__", 1),
 ];
 
-#[test]
-fn numbered_and_ordered(rt: HostRuntime) -> Result<(), Fail> {
-    let mut table = NameTable::with_capacity(rt.alloc(), 4)?;
-    assert!(rt; table.is_empty());
-    for (name, want) in NAMES {
-        same_at(&rt, table.number(name)?, want, name);
+static ORDERED: [&[u8]; 7] = [b"", b"__", b"n1", b"n1_0_", b"n1_0_0", b"x", b"\xff\x00"];
+
+/// Each name gets its number.
+fn fill(rt: &impl Abort, table: &mut NameTable<'static>) {
+    for (name, want) in &NAMES {
+        let number = table.number(name).expect(rt, "memory");
+        same_at(rt, number, *want, *name);
     }
-    same(&rt, table.len(), 7);
+}
+
+/// What a full table has.
+fn look(rt: &impl Abort, table: &NameTable<'static>) {
+    same(rt, table.len(), 7);
     assert!(rt; table.contains(b"x"));
     assert!(rt; !table.contains(b"y"));
-    let ordered = table.ordered(rt.alloc())?;
-    let want: [&[u8]; 7] = [b"", b"__", b"n1", b"n1_0_", b"n1_0_0", b"x", b"\xff\x00"];
-    same(&rt, ordered.names.as_slice(), want.as_slice());
+}
+
+/// The names in byte order, and the place of each number among them.
+fn order(rt: &impl Abort, alloc: Global, table: NameTable<'static>) {
+    let ordered = table.ordered(alloc).expect(rt, "memory");
+    same(rt, ordered.names.as_slice(), ORDERED.as_slice());
     same(
-        &rt,
+        rt,
         ordered.places.as_slice(),
         [4, 1, 2, 0, 5, 3, 6].as_slice(),
     );
-    Ok(())
 }
 
 #[test]
-fn an_empty_table(rt: HostRuntime) -> Result<(), Fail> {
-    let table = NameTable::with_capacity(rt.alloc(), 0)?;
-    let ordered = table.ordered(rt.alloc())?;
+fn numbered_and_ordered(rt: HostRuntime) {
+    let mut table = NameTable::with_capacity(rt.alloc(), 4).expect(&rt, "memory");
+    assert!(rt; table.is_empty());
+    fill(&rt, &mut table);
+    look(&rt, &table);
+    order(&rt, rt.alloc(), table);
+}
+
+#[test]
+fn an_empty_table(rt: HostRuntime) {
+    let table = NameTable::with_capacity(rt.alloc(), 0).expect(&rt, "memory");
+    let ordered = table.ordered(rt.alloc()).expect(&rt, "memory");
     assert!(rt; ordered.names.as_slice().is_empty());
     assert!(rt; ordered.places.as_slice().is_empty());
-    Ok(())
 }

@@ -1,50 +1,5 @@
 //! The small design: what stands in its files, and what is built of it.
 
-/// The design with a blockage over the power strap.
-pub(crate) const STRAP_CUT: &[u8] = b"VERSION 5.8 ;
-DESIGN small ;
-UNITS DISTANCE MICRONS 2000 ;
-DIEAREA ( 0 0 ) ( 8000 2800 ) ;
-ROW r0 unit 0 0 N DO 20 BY 1 STEP 400 0 ;
-COMPONENTS 1 ;
-- u1 C0 + PLACED ( 2400 0 ) N ;
-END COMPONENTS
-BLOCKAGES 1 ;
-- LAYER metal4 RECT ( 5900 1300 ) ( 6100 1500 ) ;
-END BLOCKAGES
-END DESIGN
-";
-
-/// That with one inside the crossing of the ground strap.
-pub(crate) const CROSSING_CUT: &[u8] = b"VERSION 5.8 ;
-DESIGN small ;
-UNITS DISTANCE MICRONS 2000 ;
-DIEAREA ( 0 0 ) ( 8000 2800 ) ;
-ROW r0 unit 0 0 N DO 20 BY 1 STEP 400 0 ;
-COMPONENTS 1 ;
-- u1 C0 + PLACED ( 2400 0 ) N ;
-END COMPONENTS
-BLOCKAGES 1 ;
-- LAYER metal4 RECT ( 1600 -50 ) ( 1700 50 ) ;
-END BLOCKAGES
-END DESIGN
-";
-
-/// That with one of a layer inside the ground stack.
-pub(crate) const STACK_BLOCKED: &[u8] = b"VERSION 5.8 ;
-DESIGN small ;
-UNITS DISTANCE MICRONS 2000 ;
-DIEAREA ( 0 0 ) ( 8000 2800 ) ;
-ROW r0 unit 0 0 N DO 20 BY 1 STEP 400 0 ;
-COMPONENTS 1 ;
-- u1 C0 + PLACED ( 2400 0 ) N ;
-END COMPONENTS
-BLOCKAGES 1 ;
-- LAYER metal2 RECT ( 1900 -10 ) ( 2100 10 ) ;
-END BLOCKAGES
-END DESIGN
-";
-
 pub(crate) const SCRIPT: &[u8] = b"set_voltage_domain -name CORE -power VDD -ground VSS
 define_pdn_grid -name grid -voltage_domains CORE
 add_pdn_stripe -grid grid -layer metal1 -width 0.17 -followpins

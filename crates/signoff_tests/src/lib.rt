@@ -14,8 +14,6 @@ mod check_tests;
 #[cfg(test)]
 mod generate_tests;
 #[cfg(test)]
-mod macro_tests;
-#[cfg(test)]
 mod runs;
 #[cfg(test)]
 mod same;

@@ -1,14 +1,9 @@
-//! Texts whose records and refusals were worked out from the rules of the format.
-use crate::same::{same, same_at};
-use DecimalError::{NotNumber, Range};
+//! A text whose record was worked out from the rules of the format. Where a text is refused is told by cases.
+use crate::same::same;
 use Shape::{FollowPin, Ring, Stripe};
-use WiresKind::{BadString, Number, Syntax, Twice, UnknownVia, ViaForm, WireForm};
 use def_wiring::*;
-use fixed_decimal::DecimalError;
 use geom_rect::Shape;
-use outside::Place;
 use std::process::Abort;
-use std::test::Fail;
 
 /// The layer, the width, the shape, and the two points with their lengthenings.
 type SaidSegment = (&'static [u8], i64, Shape, (i64, i64, i64), (i64, i64, i64));
@@ -112,7 +107,7 @@ END SPECIALNETS
 END DESIGN \" VIAS
 ";
 
-const WIRED_SAYS: [SaidNet; 2] = [
+static WIRED_SAYS: [SaidNet; 2] = [
     SaidNet {
         name: b"VDD",
         power: true,
@@ -136,25 +131,31 @@ const WIRED_SAYS: [SaidNet; 2] = [
     },
 ];
 
-#[test]
-fn vias_and_nets_of_a_design(rt: HostRuntime) -> Result<(), Fail> {
-    let wires = read_wires(rt.alloc(), WIRED)?;
-    let vias = wires.vias.as_slice();
-    same(&rt, vias.len(), 2);
-    for (via, want) in vias.iter().zip(&[
-        [b"via1_2".as_slice(), b"Via1", b"metal1", b"via1", b"metal2"],
-        [b"N", b"R2", b"a", b"b", b"c"],
-    ]) {
+static VIA_NAMES: [[&[u8]; 5]; 2] = [
+    [b"via1_2", b"Via1", b"metal1", b"via1", b"metal2"],
+    [b"N", b"R2", b"a", b"b", b"c"],
+];
+
+static VIA_NUMBERS: [[i64; 10]; 2] = [
+    [140, 150, 160, 0, 70, 0, 1, 71, 1, 3],
+    [1, 1, 0, 0, 0, 0, 0, 0, 1, 1],
+];
+
+fn compare_vias(rt: &impl Abort, vias: &[ViaDef]) {
+    same(rt, vias.len(), 2);
+    for (via, want) in vias.iter().zip(&VIA_NAMES) {
         assert!(rt; names(via) == *want);
     }
-    for (via, want) in vias.iter().zip(&[
-        [140, 150, 160, 0, 70, 0, 1, 71, 1, 3],
-        [1, 1, 0, 0, 0, 0, 0, 0, 1, 1],
-    ]) {
-        same(&rt, numbers(via), *want);
+    for (via, want) in vias.iter().zip(&VIA_NUMBERS) {
+        same(rt, numbers(via), *want);
     }
+}
+
+#[test]
+fn vias_and_nets_of_a_design(rt: HostRuntime) {
+    let wires = read_wires(rt.alloc(), WIRED).expect(&rt, "wiring");
+    compare_vias(&rt, wires.vias.as_slice());
     compare_nets(&rt, wires.nets.as_slice(), &WIRED_SAYS);
-    Ok(())
 }
 
 /// A via and a net with its use behind its wiring.
@@ -170,348 +171,4 @@ fn texts_that_are_cut(rt: HostRuntime) {
         assert!(rt; read_wires(rt.alloc(), &SHORT[..length]).is_err());
     }
     assert!(rt; read_wires(rt.alloc(), SHORT).is_ok());
-}
-
-/// A text, the line and the word of its refusal, and what is wrong with the word.
-type Refused = (&'static [u8], u64, u64, WiresKind);
-
-const REFUSED: [Refused; 65] = [
-    // names stand once
-    (
-        b"VIAS 1 ; - v + VIARULE R + CUTSIZE 1 2 + LAYERS a b c + CUTSPACING 0 4 + ENCLOSURE 0 6 7 8 ; - v ;",
-        1,
-        30,
-        Twice,
-    ),
-    (b"SPECIALNETS 1 ; - n ; - n", 1, 8, Twice),
-    (
-        b"SPECIALNETS 1 ; - n + USE SIGNAL ; END SPECIALNETS SPECIALNETS 1 ; - n",
-        1,
-        16,
-        Twice,
-    ),
-    // generated vias
-    (
-        b"VIAS 1 ; - v + VIARULE R + CUTSIZE 0 2 + LAYERS a b c + CUTSPACING 0 4 + ENCLOSURE 0 6 7 8 ;",
-        1,
-        28,
-        Syntax,
-    ),
-    (
-        b"VIAS 1 ; - v + VIARULE R + CUTSIZE 1 2 + LAYERS a b c + CUTSPACING -1 4 + ENCLOSURE 0 6 7 8 ;",
-        1,
-        28,
-        Syntax,
-    ),
-    (
-        b"VIAS 1 ; - v + VIARULE R + CUTSIZE 1 2 + LAYERS a b c + CUTSPACING 0 4 + ENCLOSURE 0 6 7 8 + ROWCOL 1 0 ;",
-        1,
-        32,
-        Syntax,
-    ),
-    (
-        b"VIAS 1 ; - v + VIARULE R + CUTSIZE -1 2 + LAYERS a b c + CUTSPACING x 4 + ENCLOSURE 0 6 7 8 ;",
-        1,
-        20,
-        Number(NotNumber),
-    ),
-    (
-        b"VIAS 1 ; - v + VIARULE R + CUTSIZE 1 2 + LAYERS a b c + CUTSPACING 0 4 + ENCLOSURE 1073741825 6 7 8 ;",
-        1,
-        24,
-        Number(Range),
-    ),
-    (
-        b"VIAS 1 ; - v + VIARULE R + CUTSIZE 1 2 + LAYERS a b c + CUTSPACING 0 4 + ENCLOSURE 0 6 7 8 + ORIGIN",
-        1,
-        29,
-        ViaForm,
-    ),
-    (
-        b"VIAS 1 ; - v + VIARULE R + CUTSIZE 1 2 + LAYERS a b c + CUTSPACING 0 4 + ENCLOSURE 0 6 7 8 + ROWCOL 1 1 + PATTERN",
-        1,
-        33,
-        ViaForm,
-    ),
-    (
-        b"VIAS 1 ; - v + VIARULE R + CUTSIZE 0 2 + LAYERS a b c + CUTSPACING 0 4 + ENCLOSURE 0 6 7 8 + OFFSET",
-        1,
-        29,
-        Syntax,
-    ),
-    (
-        b"VIAS 1 ; - v + VIARULE R + CUTSIZE y 2 + LAYERS a b c + CUTSPACING 0 4 + ENCLOSURE 0 6 7 8 + OFFSET",
-        1,
-        11,
-        Number(NotNumber),
-    ),
-    // paths of a net whose use is known
-    (b"SPECIALNETS 1 ; - n + USE POWER + ROUTED ;", 1, 11, Syntax),
-    (
-        b"SPECIALNETS 1 ; - n + USE POWER + ROUTED m -1",
-        1,
-        12,
-        Syntax,
-    ),
-    (
-        b"SPECIALNETS 1 ; - n + USE POWER + ROUTED m 1.5",
-        1,
-        12,
-        Number(NotNumber),
-    ),
-    (
-        b"SPECIALNETS 1 ; - n + USE POWER + ROUTED m (",
-        1,
-        12,
-        Syntax,
-    ),
-    (
-        b"SPECIALNETS 1 ; - n + USE POWER + ROUTED m 4 + SHAPE ;",
-        1,
-        15,
-        Syntax,
-    ),
-    (
-        b"SPECIALNETS 1 ; - n + USE POWER + ROUTED m 4 + SHAPE RING + SHAPE",
-        1,
-        17,
-        Syntax,
-    ),
-    (
-        b"SPECIALNETS 1 ; - n + USE POWER + ROUTED m 4 m ( 0 0 )",
-        1,
-        13,
-        Syntax,
-    ),
-    (
-        b"SPECIALNETS 1 ; - n + USE POWER + ROUTED m 4 ( * 0 )",
-        1,
-        14,
-        Syntax,
-    ),
-    (
-        b"SPECIALNETS 1 ; - n + USE POWER + ROUTED m 4 ( 0 * )",
-        1,
-        15,
-        Syntax,
-    ),
-    (
-        b"SPECIALNETS 1 ; - n + USE POWER + ROUTED m 4 ( 0 )",
-        1,
-        15,
-        Syntax,
-    ),
-    (
-        b"SPECIALNETS 1 ; - n + USE POWER + ROUTED m 4 ( 0 0 -1 )",
-        1,
-        16,
-        Syntax,
-    ),
-    (
-        b"SPECIALNETS 1 ; - n + USE POWER + ROUTED m 4 ( 0 0 * )",
-        1,
-        16,
-        Number(NotNumber),
-    ),
-    (
-        b"SPECIALNETS 1 ; - n + USE POWER + ROUTED m 4 ( 0 0 1 1 )",
-        1,
-        17,
-        Syntax,
-    ),
-    (
-        b"SPECIALNETS 1 ; - n + USE POWER + ROUTED m 4 ( 0 1073741825 )",
-        1,
-        15,
-        Number(Range),
-    ),
-    (
-        b"SPECIALNETS 1 ; - n + USE POWER + ROUTED m 4 ( 0 0 ) ;",
-        1,
-        17,
-        Syntax,
-    ),
-    (
-        b"SPECIALNETS 1 ; - n + USE POWER + ROUTED m 4 ( 0 0 ) NEW",
-        1,
-        17,
-        Syntax,
-    ),
-    (
-        b"SPECIALNETS 1 ; - n + USE POWER + ROUTED m 4 ( 0 0 ) + SHAPE",
-        1,
-        17,
-        Syntax,
-    ),
-    (
-        b"SPECIALNETS 1 ; - n + USE POWER + ROUTED m 4 ( 0 0 ) ( 0 1 ) v",
-        1,
-        21,
-        Syntax,
-    ),
-    (
-        b"SPECIALNETS 1 ; - n + USE POWER + ROUTED m 4 ( 0 0 ) ( 0 1 ) N",
-        1,
-        21,
-        Syntax,
-    ),
-    (
-        b"SPECIALNETS 1 ; - n + USE POWER + ROUTED m 4 ( 0 0 ) ( 3\n4 )",
-        2,
-        1,
-        WireForm,
-    ),
-    (
-        b"SPECIALNETS 1 ; - n + USE POWER + ROUTED m 4 ( 0 0 ) ( 0 1 ) ( 1 2 )",
-        1,
-        23,
-        WireForm,
-    ),
-    // vias of a path
-    (
-        b"SPECIALNETS 1 ; - n + USE POWER + ROUTED m 4 ( 0 0 ) v",
-        1,
-        17,
-        UnknownVia,
-    ),
-    (
-        b"VIAS 1 ; - v + VIARULE R + CUTSIZE 1 2 + LAYERS a b c + CUTSPACING 0 4 + ENCLOSURE 0 6 7 8 ; END VIAS SPECIALNETS 1 ; - n + USE POWER + ROUTED m 4 ( 0 0 ) v ( 1",
-        1,
-        48,
-        WireForm,
-    ),
-    (
-        b"VIAS 1 ; - v + VIARULE R + CUTSIZE 1 2 + LAYERS a b c + CUTSPACING 0 4 + ENCLOSURE 0 6 7 8 ; END VIAS SPECIALNETS 1 ; - n + USE POWER + ROUTED m 4 ( 0 0 ) v FN",
-        1,
-        48,
-        ViaForm,
-    ),
-    (
-        b"VIAS 1 ; - v + VIARULE R + CUTSIZE 1 2 + LAYERS a b c + CUTSPACING 0 4 + ENCLOSURE 0 6 7 8 ; END VIAS SPECIALNETS 1 ; - n + USE POWER + ROUTED m 4 ( 0 0 ) v DO",
-        1,
-        48,
-        ViaForm,
-    ),
-    (
-        b"VIAS 1 ; - v + VIARULE R + CUTSIZE 1 2 + LAYERS a b c + CUTSPACING 0 4 + ENCLOSURE 0 6 7 8 ; END VIAS SPECIALNETS 1 ; - n + USE POWER + ROUTED m 4 ( 0 0 ) v N DO",
-        1,
-        49,
-        ViaForm,
-    ),
-    (
-        b"VIAS 1 ; - v + VIARULE R + CUTSIZE 1 2 + LAYERS a b c + CUTSPACING 0 4 + ENCLOSURE 0 6 7 8 ; END VIAS SPECIALNETS 1 ; - n + USE POWER + ROUTED m 4 ( 0 0 ) v N S",
-        1,
-        49,
-        Syntax,
-    ),
-    (
-        b"VIAS 1 ; - v + VIARULE R + CUTSIZE 1 2 + LAYERS a b c + CUTSPACING 0 4 + ENCLOSURE 0 6 7 8 ; END VIAS SPECIALNETS 1 ; - n + USE POWER + ROUTED m 4 ( 0 0 ) v v",
-        1,
-        48,
-        Syntax,
-    ),
-    // metal that is not read
-    (
-        b"SPECIALNETS 1 ; - n + USE POWER + ROUTED m 4 + RECT",
-        1,
-        14,
-        WireForm,
-    ),
-    (
-        b"SPECIALNETS 1 ; - n + USE POWER + ROUTED m 4 ( 0 0 ) POLYGON",
-        1,
-        17,
-        WireForm,
-    ),
-    (
-        b"SPECIALNETS 1 ; - n + USE POWER + ROUTED m 4 ( 0 0 ) ( 0 1 ) VIRTUAL",
-        1,
-        21,
-        WireForm,
-    ),
-    (
-        b"SPECIALNETS 1 ; - n + USE POWER + ROUTED m 4 ( 0 0 ) ( 0 1 ) + SHIELD",
-        1,
-        22,
-        WireForm,
-    ),
-    (b"SPECIALNETS 1 ; - n + USE GROUND + VIA", 1, 10, WireForm),
-    (
-        b"VIAS 1 ; - v + VIARULE R + CUTSIZE 1 2 + LAYERS a b c + CUTSPACING 0 4 + ENCLOSURE 0 6 7 8 ; END VIAS SPECIALNETS 1 ; - n + USE POWER + ROUTED m 4 ( 0 0 ) v MASK",
-        1,
-        48,
-        WireForm,
-    ),
-    (
-        b"SPECIALNETS 1 ; - n + USE POWER + ROUTED m 4 + SHAPE RING STYLE",
-        1,
-        16,
-        WireForm,
-    ),
-    // a use that stands behind
-    (
-        b"SPECIALNETS 1 ; - n + ROUTED m x ( 0 y ) + USE POWER",
-        1,
-        9,
-        Number(NotNumber),
-    ),
-    (
-        b"SPECIALNETS 1 ; - n + ROUTED m 4 ( 0 0 ) ; - p + ROUTED ( (\n+ USE GROUND",
-        2,
-        3,
-        Syntax,
-    ),
-    (
-        b"SPECIALNETS 1 ; - n + ROUTED m -4 ( 0 0 ) ( 1 1 ) + USE POWER",
-        1,
-        20,
-        Syntax,
-    ),
-    (
-        b"SPECIALNETS 1 ; - n + FIXED m 4 ( 0 0 ) v + USE SIGNAL + USE GROUND",
-        1,
-        14,
-        UnknownVia,
-    ),
-    (
-        b"SPECIALNETS 1 ; - n + COVER m 4 ( 0 0 ) ( 1 1 ) + USE GROUND",
-        1,
-        16,
-        WireForm,
-    ),
-    (
-        b"SPECIALNETS 1 ; - n + ROUTED m x + USE POWER",
-        1,
-        9,
-        Number(NotNumber),
-    ),
-    // sections and the end of the text
-    (b"VIAS ;", 1, 2, Syntax),
-    (b"VIAS -1 ;", 1, 2, Syntax),
-    (b"VIAS x ;", 1, 2, Number(NotNumber)),
-    (b"VIAS 1 ; + v", 1, 4, Syntax),
-    (b"VIAS 1 ; - ;", 1, 5, Syntax),
-    (b"VIAS 1 ; END SPECIALNETS", 1, 5, Syntax),
-    (b"SPECIALNETS 1 ; END VIAS", 1, 5, Syntax),
-    (b";", 1, 1, Syntax),
-    (b"END VIAS", 1, 2, Syntax),
-    (b"VIAS 0 ; END VIAS", 1, 6, Syntax),
-    (b"PINS 1 ; END NETS", 1, 6, Syntax),
-    (b"VERSION 5.8 \"", 1, 3, BadString),
-];
-
-#[test]
-fn refused_texts(rt: HostRuntime) {
-    for (text, line, word, kind) in &REFUSED {
-        let place = Place {
-            line: *line,
-            word: *word,
-        };
-        same_at(
-            &rt,
-            read_wires(rt.alloc(), text).err(),
-            Some(WiresError { place, kind: *kind }),
-            text,
-        );
-    }
 }

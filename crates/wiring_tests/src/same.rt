@@ -6,13 +6,3 @@ use std::process::Abort;
 pub(crate) fn same<T: PartialEq + Debug + Drop>(rt: &impl Abort, is: T, want: T) {
     assert_eq!(rt; is, want);
 }
-
-/// Ends the test where a value is another than the one that is wanted, and tells both and what they belong to.
-pub(crate) fn same_at<T: PartialEq + Debug + Drop>(
-    rt: &impl Abort,
-    is: T,
-    want: T,
-    of: impl Debug + Drop,
-) {
-    assert_eq!(rt; is, want, "of {of:?}");
-}

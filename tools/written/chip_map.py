@@ -3,6 +3,7 @@ from collections import defaultdict
 from typing import NamedTuple
 
 from .colours import BARE, BEYOND
+from .matching import PIN
 from .raster import Raster
 from .svg import Window, element, title, words
 from .units import millivolts, trimmed
@@ -22,6 +23,7 @@ class Part(NamedTuple):
     box: tuple
     colour: int
     words: str
+    is_stack: bool = False
 
 
 def ranks(wiring):
@@ -51,7 +53,7 @@ class Map:
         self.chip, self.view, self.scale = chip, view, scale
         self.rows, self.cells = rows, cells
         self.colours = [BARE, *scale.colours, BEYOND]
-        boxes = [chip.wiring.die, *(piece.box() for net in chip.wiring.nets for piece in net.pieces), *(row.box for row in rows)]
+        boxes = [chip.wiring.bounds(), *(row.box for row in rows), *(cell.box for cell in cells)]
         low, high = [min(box[k] for box in boxes) for k in (0, 1)], [max(box[k] for box in boxes) for k in (2, 3)]
         self.unit = max(high[0] - low[0], high[1] - low[1], 1000) // 100
         self.box = (low[0] - 2 * self.unit, low[1] - 2 * self.unit, high[0] + 2 * self.unit, high[1] + 2 * self.unit)
@@ -82,12 +84,17 @@ class Map:
         for number, segments in runs:
             yield Part(self.box_of(piece, segments[0].start, segments[-1].end), number, self.run_words(net, piece, segments))
 
+    def piece_words(self, net, piece):
+        """What a piece is."""
+        shape = "pin of a block, which the DEF does not have" if piece.shape == PIN else piece.shape
+        return f"{self.chip.nets[net].name} {piece.layer} {shape}"
+
     def run_words(self, net, piece, segments):
         """What hovering says of some segments of a piece."""
         first, last = segments[0], segments[-1]
         names = f"{self.node_at(piece, first, first.start)} to {self.node_at(piece, last, last.end)}"
         count = f"R{first.branch + 1}" if first is last else f"{len(segments)} branches"
-        return "\n".join([f"{self.chip.wiring.nets[net].name} {piece.layer} {piece.shape}", f"{names}, {count}",
+        return "\n".join([self.piece_words(net, piece), f"{names}, {count}",
                           words_of(self.chip.drops, [segment.branch for segment in segments])])
 
     def node_at(self, piece, segment, place):
@@ -100,24 +107,25 @@ class Map:
     def stacks(self, net):
         """The stacks of a net, each with the worst colour of its arrays."""
         held = defaultdict(list)
-        for array in self.chip.wiring.nets[net].arrays:
+        for array in self.chip.nets[net].arrays:
             held[array.x, array.y].append(array)
         for (x, y), arrays in held.items():
             branches = [self.chip.branch_of[net, array] for array in arrays]
             half = [max([self.unit // 5, *(array.via.half_size()[k] for array in arrays)]) for k in (0, 1)]
             layers = f"{arrays[0].via.lower} to {arrays[-1].via.upper}"
-            said = f"stack of {self.chip.wiring.nets[net].name} at ( {x} {y} ), {layers}\n{words_of(self.chip.drops, branches)}"
-            yield Part((x - half[0], y - half[1], x + half[0], y + half[1]), max(self.numbers[branch] for branch in branches), said)
+            said = f"stack of {self.chip.nets[net].name} at ( {x} {y} ), {layers}\n{words_of(self.chip.drops, branches)}"
+            yield Part((x - half[0], y - half[1], x + half[0], y + half[1]), max(self.numbers[branch] for branch in branches), said, True)
 
     def pieces_by_layer(self, nets):
         """Nets and pieces from the lowest layer to the highest."""
         rank = ranks(self.chip.wiring)
-        pieces = [(net, piece) for net in nets for piece in self.chip.wiring.nets[net].pieces]
+        pieces = [(net, piece) for net in nets for piece in self.chip.pieces(net)]
         return sorted(pieces, key=lambda held: rank[held[1].layer])
 
     def frames(self, window):
         """The die, the rows and the cells."""
-        drawn = [window.rect(self.chip.wiring.die, title("the die"), fill="#fbfbfa", stroke="#60656f", stroke_width=1, vector_effect="non-scaling-stroke")]
+        die = self.chip.wiring.die
+        drawn = [window.rect(die, title("the die"), fill="#fbfbfa", stroke="#60656f", stroke_width=1, vector_effect="non-scaling-stroke")] if die else []
         for place, row in enumerate(self.rows):
             drawn.append(window.rect(row.box, title(f"row {row.name}"), fill="#eceef1" if place % 2 == 0 else "#f5f6f7"))
         for cell in self.cells:
@@ -125,28 +133,27 @@ class Map:
                                      vector_effect="non-scaling-stroke", pointer_events="all"))
         return drawn
 
+    def parts(self, nets):
+        """The coloured parts of some nets, the worst last, so that nothing hides it."""
+        parts = [part for net, piece in self.pieces_by_layer(nets) for part in self.runs(net, piece)]
+        parts += [part for net in nets for part in self.stacks(net)]
+        return sorted(parts, key=lambda part: part.colour)
+
     def metal(self, window, nets):
-        """The metal of some nets, layer by layer, and the stacks over it."""
+        """The metal of some nets in grey, layer by layer, and what has a colour over it."""
         drawn = []
         for net, piece in self.pieces_by_layer(nets):
-            said = f"{self.chip.wiring.nets[net].name} {piece.layer} {piece.shape}"
-            drawn.append(window.rect(self.box_of(piece), title(said), fill=BARE))
-            drawn += [window.rect(part.box, title(part.words), fill=self.colours[part.colour]) for part in self.runs(net, piece)]
-        for net in nets:
-            drawn += [window.rect(part.box, title(part.words), fill=self.colours[part.colour], stroke="#1d2129", stroke_width=1,
-                                  vector_effect="non-scaling-stroke") for part in self.stacks(net)]
-        return drawn
+            drawn.append(window.rect(self.box_of(piece), title(self.piece_words(net, piece)), fill=BARE))
+        edge = {"stroke": "#1d2129", "stroke_width": 1, "vector_effect": "non-scaling-stroke"}
+        return drawn + [window.rect(part.box, title(part.words), fill=self.colours[part.colour], **(edge if part.is_stack else {}))
+                        for part in self.parts(nets)]
 
     def raster(self, window, nets, cells):
         """The metal of some nets as a picture of so many cells along the longer side, in each the worst."""
         raster = Raster(self.box, cells)
-        parts = []
         for net, piece in self.pieces_by_layer(nets):
             raster.paint(self.box_of(piece), 1)
-            parts += self.runs(net, piece)
-        for net in nets:
-            parts += self.stacks(net)
-        for part in sorted(parts, key=lambda part: part.colour):
+        for part in self.parts(nets):
             raster.paint(part.box, 1 + part.colour)
         return [element("image", x=0, y=0, width=window.across, height=window.up, preserveAspectRatio="none", href=raster.data_link(self.colours))]
 

@@ -28,7 +28,10 @@ def number(word):
         return None
     digits, letters = found.groups()
     scale = next((power for name, power in _SCALES if letters.lower().startswith(name)), 0)
-    return Decimal(digits).scaleb(scale)
+    try:
+        return Decimal(digits).scaleb(scale)
+    except ArithmeticError:
+        return None
 
 
 def joined_lines(text):

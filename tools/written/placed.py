@@ -1,99 +1,89 @@
-"""Rows and cells of a placed design, and the sizes of sites and macros, as far as a picture needs them."""
-import re
-from decimal import Decimal, InvalidOperation
-from typing import NamedTuple
+"""Rows and components of a placed design, as far as pictures and tables need them."""
+from typing import NamedTuple, Optional
 
-from .refusal import Refused, read_text
+from .def_text import Head, statements
+from .refusal import Refused
 
-SIDEWAYS = ("E", "W", "FE", "FW")
+_PLACED = ("PLACED", "FIXED", "COVER")
 
 
-class Frame(NamedTuple):
-    """A row or a cell: its name, what it is of, and its rectangle."""
+class Row(NamedTuple):
+    """A row and its rectangle."""
     name: str
-    kind: str
     box: tuple
 
 
-def words_of(path):
-    """The words of a LEF or DEF text with their lines, comments left out."""
-    for place, line in enumerate(read_text(path).split("\n"), 1):
-        for word in re.sub(r"(^|\s)#.*", "", line).split():
-            yield place, word
+class Component(NamedTuple):
+    """A component, its macro, its line, its place and orientation, and its rectangle. The last three are None where it is not placed, and the
+    last where the library has no size of its macro."""
+    name: str
+    kind: str
+    line: int
+    place: Optional[tuple]
+    orientation: Optional[str]
+    box: Optional[tuple]
 
 
-def statements(path):
-    """The statements of a DEF text: the line of the first word, and the words before the `;`."""
-    held, begun = [], None
-    for place, word in words_of(path):
-        begun = place if begun is None else begun
-        if word == ";":
-            yield begun, held
-            held, begun = [], None
-        else:
-            held.append(word)
+class Placed(Head):
+    """The rows and components of a DEF, with the sizes that a library gives them. Rows of a site without one are left out."""
 
+    def __init__(self, path, library):
+        super().__init__(path)
+        self.library, self.rows, self.components = library, [], []
+        for statement in statements(path):
+            try:
+                self._take_statement(statement)
+            except (IndexError, ValueError):
+                what = f"component {statement.words[1]}" if statement.words[0] == "-" and len(statement.words) > 1 else statement.words[0]
+                raise Refused(path, statement.lines[0], f"this {what} is not read") from None
+        if self.units is None or self.die is None:
+            raise Refused(path, None, f"no {'UNITS' if self.units is None else 'DIEAREA'} stands in this placed design")
 
-def read_sizes(path, units):
-    """The width and height of each site and macro of a LEF library, in units of the design."""
-    sizes, name = {}, None
-    words = [(0, "")] * 5
-    for place, word in words_of(path):
-        words = [*words[1:], (place, word)]
-        if words[-2][1] in ("SITE", "MACRO") and word != ";" and (words[-2][1] == "MACRO" or name is None):
-            name = word
-        elif words[-2][1] == "END" and word == name:
-            name = None
-        elif words[-4][1] == "SIZE" and words[-2][1] == "BY" and name is not None:
-            sizes.setdefault(name, tuple(in_units(path, place, number, units) for number in (words[-3][1], word)))
-    return sizes
+    def _take_statement(self, statement):
+        words = statement.words
+        is_component, is_row = statement.section == "COMPONENTS" and words[0] == "-", not statement.section and words[0] == "ROW"
+        if self.units is None and (is_component or is_row):
+            raise Refused(self.path, statement.lines[0], "no UNITS stand before this line")
+        if is_component:
+            self._take_component(words, statement.lines[0])
+        elif is_row:
+            self._take_row(words)
+        elif not statement.section:
+            self.take(statement)
 
+    def _take_row(self, words):
+        """A row: ROW name site x y orientation DO count BY count STEP x y."""
+        site, x, y = words[2], int(words[3]), int(words[4])
+        size = self.library.size(site, self.units, words[5])
+        if size is None:
+            return
+        width, height = size
+        if "DO" in words:
+            do = words.index("DO")
+            counts = int(words[do + 1]), int(words[do + 3])
+            steps = (int(words[do + 5]), int(words[do + 6])) if "STEP" in words else (width, height)
+            width, height = width + (counts[0] - 1) * steps[0], height + (counts[1] - 1) * steps[1]
+        self.rows.append(Row(words[1], (x, y, x + width, y + height)))
 
-def in_units(path, line, word, units):
-    """A length in micrometres as whole units of the design."""
-    try:
-        return int((Decimal(word) * units).to_integral_value())
-    except (InvalidOperation, ValueError):
-        raise Refused(path, line, f"{word} is no length") from None
+    def _take_component(self, words, line):
+        """A component: - name macro .. + PLACED ( x y ) orientation."""
+        name, kind = words[1], words[2]
+        at = next((at for at, word in enumerate(words[3:], 3) if word in _PLACED and words[at - 1] == "+"), None)
+        if at is None:
+            self.components.append(Component(name, kind, line, None, None, None))
+            return
+        x, y, orientation = int(words[at + 2]), int(words[at + 3]), words[at + 5]
+        size = self.library.size(kind, self.units, orientation)
+        box = None if size is None else (x, y, x + size[0], y + size[1])
+        self.components.append(Component(name, kind, line, (x, y), orientation, box))
 
+    def frames(self):
+        """The components that are placed and have a size."""
+        return [component for component in self.components if component.box is not None]
 
-def read_placed(path, sizes, wiring):
-    """The rows and the cells of the placed design whose grid was written."""
-    rows, cells, found = [], [], {}
-    for line, words in statements(path):
-        try:
-            if words[0] in ("DESIGN", "UNITS", "DIEAREA"):
-                found[words[0]] = words[1:]
-            elif words[0] == "ROW":
-                rows.append(row_frame(words, sizes))
-            elif words[0] == "-" and "(" in words:
-                cells.append(cell_frame(words, sizes))
-        except (IndexError, ValueError, KeyError):
-            raise Refused(path, line, f"this {words[0] if words[0] != '-' else 'component'} is not read, or its site or macro has no size") from None
-        if words[:2] == ["END", "COMPONENTS"]:
-            break
-    die = [number for number in found.get("DIEAREA", []) if number not in "()"]
-    if found.get("DESIGN") != [wiring.design] or found.get("UNITS", [])[-1:] != [str(wiring.units)] or die != [str(x) for x in wiring.die]:
-        raise Refused(path, None, f"design, units or die are not those of {wiring.path}: it is another design")
-    return rows, cells
-
-
-def row_frame(words, sizes):
-    """A row: ROW name site x y orientation DO count BY count STEP x y."""
-    name, site, x, y = words[1], words[2], int(words[3]), int(words[4])
-    width, height = sizes[site]
-    if "DO" in words:
-        count = int(words[words.index("DO") + 1])
-        step = int(words[words.index("STEP") + 1]) if "STEP" in words else width
-        width += (count - 1) * step
-    return Frame(name, site, (x, y, x + width, y + height))
-
-
-def cell_frame(words, sizes):
-    """A component: - name macro .. + PLACED ( x y ) orientation."""
-    at = next(at for at, word in enumerate(words) if word in ("PLACED", "FIXED", "COVER"))
-    x, y, orientation = int(words[at + 2]), int(words[at + 3]), words[at + 5]
-    width, height = sizes[words[2]]
-    if orientation in SIDEWAYS:
-        width, height = height, width
-    return Frame(words[1], words[2], (x, y, x + width, y + height))
+    def is_of(self, other):
+        """Refuses a DEF of another design, units or die, where that says them."""
+        same = all(theirs is None or ours == theirs for ours, theirs in
+                   ((self.design, other.design), (self.units, other.units), (self.die, other.die)))
+        if not same:
+            raise Refused(self.path, None, f"design, units or die are not those of {other.path}: it is another design")

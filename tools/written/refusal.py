@@ -20,12 +20,22 @@ def read_text(path):
         raise Refused(path, None, f"cannot be read: {fault.strerror}") from None
 
 
+def put(path, text):
+    """Writes a text to a file."""
+    with open(path, "w", encoding="utf-8", errors="surrogateescape", newline="") as file:
+        file.write(text)
+
+
 def write_text(path, text):
-    """Writes a file whole."""
+    """Writes a file whole: under another name first, so that no half of it stands where a disk is full."""
+    held = f"{path}.part" if os.path.isfile(path) or not os.path.exists(path) else path
     try:
-        with open(path, "w", encoding="utf-8", errors="surrogateescape", newline="") as file:
-            file.write(text)
+        put(held, text)
+        if held != path:
+            os.replace(held, path)
     except OSError as fault:
+        if held != path and os.path.exists(held):
+            os.remove(held)
         raise Refused(path, None, f"cannot be written: {fault.strerror}") from None
 
 
@@ -38,6 +48,8 @@ def run(main):
     """Ends the process with the status of main, and with 1 and one line where an input is refused."""
     # what is read is held to the end, so there is nothing to collect, and to look for it takes a fifth of the time
     gc.disable()
+    # a stream that is closed at the start is None, and is read by nobody
+    sys.stdout, sys.stderr = (stream or open(os.devnull, "w", encoding="utf-8") for stream in (sys.stdout, sys.stderr))
     sys.stdout.reconfigure(errors="surrogateescape")
     sys.stderr.reconfigure(errors="surrogateescape")
     try:
@@ -48,6 +60,15 @@ def run(main):
         status = 1
     except BrokenPipeError:
         # who reads has seen enough, as `head` does
-        os.dup2(os.open(os.devnull, os.O_WRONLY), sys.stdout.fileno())
+        leave_standard_output()
         status = 0
+    except OSError as fault:
+        leave_standard_output()
+        say(f"standard output cannot be written: {fault.strerror}")
+        status = 1
     sys.exit(status)
+
+
+def leave_standard_output():
+    """What is still to be written there is dropped."""
+    os.dup2(os.open(os.devnull, os.O_WRONLY), sys.stdout.fileno())

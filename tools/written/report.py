@@ -1,4 +1,4 @@
-"""The report of `pdn build` and `pdn solve`, read in exactly the form in which it is written."""
+"""The report of `pdn build`, `signoff` and `solve`, and that of `step`, read in exactly the form in which they are written."""
 import re
 from collections import Counter
 from typing import NamedTuple, Optional
@@ -6,7 +6,7 @@ from typing import NamedTuple, Optional
 from .refusal import Refused, read_text
 from .units import whole
 
-HEAD = "pdn report 1"
+HEAD, STEPS_HEAD = "pdn report 1", "pdn steps 1"
 VERDICTS = ("SAFE", "UNSAFE", "OPEN", "NOLIMIT")
 _VERDICT = "|".join(VERDICTS)
 _NINE = r"(-?[0-9]+\.[0-9]{9})"
@@ -105,11 +105,50 @@ def stated(limit):
     return None if limit == "none" else whole(limit)
 
 
-def whole_lines(path):
+class Steps:
+    """The report of `pdn step`: for each step from 0 the same nodes, in the order of their lines."""
+
+    def __init__(self, path):
+        self.path, self.steps = path, []
+        for number, line in enumerate(whole_lines(path, STEPS_HEAD)[1:-1], 2):
+            self._take(number, line)
+        self._check_whole(number if self.steps else 1)
+
+    def _take(self, number, line):
+        """Takes one line between the first and the last."""
+        if line == f"step {len(self.steps)}":
+            self._check_whole(number)
+            self.steps.append([])
+        elif self.steps and (found := _NODE.fullmatch(line)):
+            self._take_node(number, found)
+        else:
+            raise Refused(self.path, number, "this is no line of a report of steps here")
+
+    def _take_node(self, number, found):
+        name, low, high = found.groups()
+        place = len(self.steps[-1])
+        if len(self.steps) > 1 and (place >= len(self.steps[0]) or self.steps[0][place].name != name):
+            raise Refused(self.path, number, f"the node {name} is not in its place of step 0")
+        if whole(low) > whole(high):
+            raise Refused(self.path, number, "the interval ends below its beginning")
+        self.steps[-1].append(Node(name, whole(low), whole(high)))
+
+    def _check_whole(self, number):
+        """The last step has as many nodes as the first."""
+        if self.steps and len(self.steps[-1]) != len(self.steps[0]):
+            raise Refused(self.path, number, f"step {len(self.steps) - 1} has fewer nodes than step 0")
+
+
+def read_report(path):
+    """A report of any command: `Steps` of `step`, `Report` of the others."""
+    return Steps(path) if read_text(path).startswith(STEPS_HEAD + "\n") else Report(path)
+
+
+def whole_lines(path, head=HEAD):
     """The lines of a report that has its first and its last one."""
     lines = read_text(path).split("\n")
-    if lines[0] != HEAD:
-        raise Refused(path, 1, f"this is no report of pdn, which begins with the line '{HEAD}'")
+    if lines[0] != head:
+        raise Refused(path, 1, f"this is no report of pdn, which begins with the line '{head}'")
     if lines[-1] != "":
         raise Refused(path, len(lines), "the report is cut off within this line")
     lines.pop()

@@ -36,3 +36,8 @@ def milliamperes(nanoamperes):
 
 def percent(millionths):
     return printed(millionths, 4)
+
+
+def micrometres(length, units):
+    """A length in units of a design as a decimal of micrometres, rounded to six places where it has more."""
+    return trimmed((2 * length * 10 ** 6 + units) // (2 * units), 6)

@@ -7,7 +7,7 @@ from .refusal import Refused, read_text
 _NAME = r"(\S+)"
 _INT = r"(-?[0-9]+)"
 _POINT = rf"\( {_INT} {_INT} \)"
-_VIA = re.compile(rf"- {_NAME} \+ VIARULE \S+ \+ CUTSIZE {_INT} {_INT} \+ LAYERS {_NAME} {_NAME} {_NAME} \+ CUTSPACING {_INT} {_INT} "
+_VIA = re.compile(rf"- {_NAME} \+ VIARULE {_NAME} \+ CUTSIZE {_INT} {_INT} \+ LAYERS {_NAME} {_NAME} {_NAME} \+ CUTSPACING {_INT} {_INT} "
                   rf"\+ ENCLOSURE {_INT} {_INT} {_INT} {_INT} \+ ROWCOL {_INT} {_INT} ;")
 _NET = re.compile(rf"- {_NAME} \+ USE (POWER|GROUND)")
 _PIECE = re.compile(rf"(\+ ROUTED|NEW) {_NAME} ([1-9][0-9]*) \+ SHAPE (RING|STRIPE|FOLLOWPIN) {_POINT} {_POINT}")
@@ -22,6 +22,9 @@ class Via(NamedTuple):
     upper: str
     span: tuple
     enclosure: tuple
+    # where the words of the DEF are written again: the rule, and the size of a cut, the spacings, columns and rows
+    rule: str = ""
+    cuts: tuple = ()
 
     def half_size(self):
         """How far the wider of its two metals reaches from its place, in x and y."""
@@ -127,10 +130,10 @@ def take_vias(lines):
     vias = {}
     for _ in range(count):
         name, *words = lines.take(_VIA, "a generated via")
-        lower, cut, upper = words[2:5]
-        width, height, across, up, *enclosure, rows, columns = map(int, words[:2] + words[5:])
+        rule, lower, cut, upper = words[0], *words[3:6]
+        width, height, across, up, *enclosure, rows, columns = map(int, words[1:3] + words[6:])
         span = (columns * width + (columns - 1) * across, rows * height + (rows - 1) * up)
-        vias[name] = Via(name, lower, cut, upper, span, tuple(enclosure))
+        vias[name] = Via(name, lower, cut, upper, span, tuple(enclosure), rule, (width, height, across, up, columns, rows))
     lines.take("END VIAS", "'END VIAS'")
     return vias
 

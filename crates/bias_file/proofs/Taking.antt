@@ -1,27 +1,34 @@
 -- One more line.
-use Rattle.std.proofs.Common.{◌≡◌, ◌↔◌, IsTrue, ℕ, ◌<◌, ◌≤◌, ◌^◌, ◌==◌, Bool, true, false, ◌&&◌, List, [], ◌∷◌, ◌++◌, length, get_or, slice_get, Contains, ℤ, Result, Ok, Err, OnOk, Some, refl, sym, ◌∙◌, ap, subst, arith, to_z, of_z}
+use Rattle.std.proofs.Common.{◌≡◌, ◌↔◌, inl, inr, ◌<ℤ◌, ◌≤ℤ◌, IsTrue, ℕ, ◌<◌, ◌≤◌, ◌^◌, ◌==◌, Bool, true, false, ◌&&◌, List, [], ◌∷◌, ◌++◌, length, get_or, slice_get, Contains, ℤ, Result, Ok, Err, OnOk, Some, refl, sym, ◌∙◌, ap, subst, arith, to_z, of_z}
 use Rattle.std.specs.Prelude.{unsigned_abs}
 use Rattle.std.specs.Int.{w64, w128}
 use Rattle.name_table.specs.Numbering.{TakesName}
-use Rattle.bias_file.specs.declared.error.BiasKind.TheVariants.{Twice}
+use Rattle.bias_file.specs.declared.error.BiasKind.{BiasKind}
+use Rattle.bias_file.specs.declared.error.BiasKind.TheVariants.{Twice, Falling}
 use Rattle.bias_file.specs.declared.sort.Sort.{Sort}
-use Rattle.bias_file.specs.declared.sort.Sort.TheVariants.{Cell, Instance}
+use Rattle.bias_file.specs.declared.sort.Sort.TheVariants.{Supply, DropLimit, Pad, Cell, Instance}
 use Rattle.bias_file.specs.Sort.{sort_of, the, number_of, all_sorts, listed}
-use Rattle.bias_file.specs.Rule.{has_value, has_range, has_place, name_on, is_line}
+use Rattle.bias_file.specs.Rule.{has_value, has_range, has_place, name_on, is_line, is_name, is_number, is_end, is_any, name, number, end, value_line, current_line, pad_line, pattern}
+use Rattle.bias_file.specs.Number.{amperes}
+use Rattle.bias_file.specs.Record.{SaysAmps}
+use Rattle.bias_file.specs.declared.section.Section.{Section}
+use Rattle.bias_file.specs.declared.section.Section.TheVariants.{LineStart, Remark, Nothing}
 use Rattle.bias_file.specs.declared.record.PadAt.{PadAt}
 use Rattle.bias_file.specs.declared.record.Amps.{Amps}
 use Rattle.bias_file.specs.Section.{section_of, section_after}
-use Rattle.bias_file.specs.Fault.{names_of}
-use Rattle.std.proofs.lemmas.Int.{to_z-of_z, fits_signed_from_abs}
+use Rattle.bias_file.specs.Fault.{names_of, NumberFault, ValueFault, RangeFault, FourthFault}
+use Rattle.std.proofs.lemmas.Int.{ints, to_z-of_z, fits_signed_from_abs}
 use Rattle.bias_file.specs.Format.{format}
 use Rattle.bias_file.specs.declared.held.NetVolts.{NetVolts}
-use Rattle.bias_file.specs.inside.Held.{HoldsLines, Takes, FindsVolts}
+use Rattle.bias_file.specs.declared.held.NameAmps.{NameAmps}
+use Rattle.bias_file.specs.inside.Held.{HoldsLines, Takes, FindsVolts, ShowsNone, FindsAmps}
 use Rattle.named_entries.specs.Named.{NamedList}
 use Rattle.std.specs.declared.alloc.AllocError.{AllocError}
 use Rattle.named_entries.specs.Laws.{named-added, named-kept}
 use Rattle.number_place.specs.declared.place.NumberPlace.{NumberPlace}
 use Rattle.number_place.specs.Place.{IsNumberAt}
-use Rattle.reading.specs.Grammar.{NoneShows}
+use Rattle.reading.specs.Grammar.{NoneShows, IsTaken}
+use Rattle.reading.specs.Pattern.{Pattern, One, Then, Or, Matches}
 use Rattle.reading.specs.Reading.{IsFine}
 use Rattle.reading.specs.declared.word.Word.{Word}
 use Rattle.reading.specs.declared.word.Form.TheVariants.{Bare}
@@ -78,17 +85,18 @@ fresh word units first name words e value fine there =
 
 -- A line that says an entry is taken with it.
 pub line_taken : {E : Type 0} (says : List Token → E → Type 0) (word : Sort) (old new : NamedList E) (first name : Token) (words : List Token) (entry : E) (r : Result (Unit {0}) AllocError) →
-    sort_of first ≡ word → has_value word ≡ true → is_line word (first ∷ name ∷ words) ≡ true → says (first ∷ name ∷ words) entry →
+    sort_of first ≡ word → has_value word ≡ true → is_line word (first ∷ name ∷ words) ≡ true →
+    ((units : List (List Token)) → IsTaken format units (first ∷ name ∷ words) → says (first ∷ name ∷ words) entry) →
     OnOk r (TakesName old.names new.names name.text) → OnOk r (new.entries ≡ old.entries ++ entry ∷ []) →
     OnOk r (Takes (HoldsLines says word old) (HoldsLines says word new) (first ∷ name ∷ words))
 line_taken says word old new first name words entry (Err x) e value is s taken entries = tt
-line_taken says word old new first name words entry (Ok x) e value is s taken entries = λ units fine h.
-    named-added says name_on (is_line word) units (first ∷ name ∷ words) old new entry is h (fresh word units first name words e value fine) s taken entries
+line_taken says word old new first name words entry (Ok x) e value is s taken entries = λ units t h.
+    named-added says name_on (is_line word) units (first ∷ name ∷ words) old new entry is h (fresh word units first name words e value t.fine) (s units t) taken entries
 
 -- A unit that is no line with this first word leaves what is held.
 pub line_kept : {E : Type 0} (says : List Token → E → Type 0) (word : Sort) (named : NamedList E) (unit : List Token) → is_line word unit ≡ false →
     Takes (HoldsLines says word named) (HoldsLines says word named) unit
-line_kept says word named unit is = λ units fine h. named-kept says name_on (is_line word) units unit named is h
+line_kept says word named unit is = λ units t h. named-kept says name_on (is_line word) units unit named is h
 
 and_false : (b : Bool) → (b && false) ≡ false
 and_false true = refl
@@ -117,6 +125,13 @@ no_current word range (a ∷ b ∷ c ∷ d ∷ []) h k = absurd (h refl)
 no_current word range (a ∷ b ∷ c ∷ d ∷ e ∷ []) h k = absurd (k refl)
 no_current word range (a ∷ b ∷ c ∷ d ∷ e ∷ f ∷ []) h k = ap (λ z. z && the word (sort_of a)) (range_no_place word range)
 no_current word range xs h k = refl
+
+-- A pad's line has six words.
+pub not_pad : (xs : List Token) → (length xs ≡ 6 → ⊥) → is_line Pad xs ≡ false
+not_pad (a ∷ b ∷ c ∷ d ∷ []) h = refl
+not_pad (a ∷ b ∷ c ∷ d ∷ e ∷ []) h = refl
+not_pad (a ∷ b ∷ c ∷ d ∷ e ∷ f ∷ []) h = absurd (h refl)
+not_pad xs h = refl
 
 number_same : (a b : Sort) → (number_of a == number_of b) ≡ true → a ≡ b
 number_same a b h =
@@ -167,19 +182,156 @@ has_second false c h = absurd (let t : false ≡ true = h in cc)
 
 -- A line of volts is taken with the entry that is made of it.
 pub volts_taken : {E : Type 0} (says : List Token → E → Type 0) (make : ℕ → List ℕ → ℤ → E) (word : Sort) (place : NumberPlace) (old new : NamedList E) (unit : List Token) (found : NetVolts) (name : List ℕ) (r : Result (Unit {0}) AllocError) →
-    place.limit ≤ 10 ^ 37 → has_value word ≡ true → FindsVolts word place unit (Some found) →
+    place.limit ≤ 10 ^ 37 → has_value word ≡ true → ((text : List ℕ) (kind : BiasKind) → NumberFault place text kind → ValueFault word text kind) → FindsVolts word place unit (Some found) →
     ((first net value stop : Token) (v : ℤ) → IsNumberAt place value.text (Ok v) → says (first ∷ net ∷ value ∷ stop ∷ []) (make first.place.line net.text v)) →
     name ≡ found.net.now → OnOk r (TakesName old.names new.names found.net.now) →
     OnOk r (new.entries ≡ old.entries ++ make found.line name (to_z w128 (of_z w128 found.volts)) ∷ []) →
     OnOk r (Takes (HoldsLines says word old) (HoldsLines says word new) unit)
-volts_taken says make word place old new (first ∷ net ∷ value ∷ stop ∷ []) found name r limit gives h said e taken entries =
+volts_taken says make word place old new (first ∷ net ∷ value ∷ stop ∷ []) found name r limit gives faults h said e taken entries =
     let kept = to_z w128 (of_z w128 found.volts) in
-    let made = ap (λ z. make z name kept) h.1.0 ∙ ap (λ z. make first.place.line z kept) (e ∙ h.1.1)
-    ∙ ap (λ z. make first.place.line net.text z) (number_kept place value.text found.volts limit h.1.2) in
-    line_taken says word old new first net (value ∷ stop ∷ []) (make found.line name kept) r (begun_with word _ (has_second _ _ h.0)) gives h.0
-    (subst (λ z. says (first ∷ net ∷ value ∷ stop ∷ []) z) (sym made) (said first net value stop found.volts h.1.2))
+    let begun : sort_of first ≡ word = begun_with word _ (has_second _ _ h.0) in
+    let is = λ (units : List (List Token)) (t : IsTaken format units (first ∷ net ∷ value ∷ stop ∷ [])).
+    h.1.2 (λ kind n. t.fine.1.1.0 (record { at = 2; kind = kind }) (refl, subst (λ z. ValueFault z value.text kind) (sym begun) (faults value.text kind n))) in
+    let made = λ (v : IsNumberAt place value.text (Ok found.volts)). ap (λ z. make z name kept) h.1.0 ∙ ap (λ z. make first.place.line z kept) (e ∙ h.1.1)
+    ∙ ap (λ z. make first.place.line net.text z) (number_kept place value.text found.volts limit v) in
+    line_taken says word old new first net (value ∷ stop ∷ []) (make found.line name kept) r begun gives h.0
+    (λ units t. subst (λ z. says (first ∷ net ∷ value ∷ stop ∷ []) z) (sym (made (is units t))) (said first net value stop found.volts (is units t)))
     (subst (λ z. OnOk r (TakesName old.names new.names z)) h.1.1 taken) entries
-volts_taken says make word place old new unit found name r limit gives h said e taken entries = absurd h.1
+volts_taken says make word place old new unit found name r limit gives faults h said e taken entries = absurd h.1
+
+-- ## lines of currents
+
+range_faults : (word : Sort) → has_range word ≡ true → (text : List ℕ) (kind : BiasKind) → NumberFault amperes text kind → ValueFault word text kind
+range_faults Cell h text kind n = n
+range_faults Instance h text kind n = n
+range_faults word h text kind n = absurd (let t : false ≡ true = h in cc)
+
+falls_faults : (word : Sort) → has_range word ≡ true → (low high : Token) (kind : BiasKind) → RangeFault low high kind → FourthFault word low high kind
+falls_faults Cell h low high kind n = n
+falls_faults Instance h low high kind n = n
+falls_faults word h low high kind n = absurd (let t : false ≡ true = h in cc)
+
+peel : (class : Sort → Bool) (p : Pattern Sort) (a : Token) (words : List Token) → Matches sort_of (Then (One class) p) (a ∷ words) → (class (sort_of a) ≡ true) × Matches sort_of p words
+peel class p a words h =
+    let whole : a ∷ words ≡ h.2.0 ∷ h.1 = h.4 ∙ ap (λ z. z ++ h.1) h.2.2 in
+    let first : h.2.0 ≡ a = cc in
+    let rest : h.1 ≡ words = cc in
+    (subst (λ z. class (sort_of z) ≡ true) first h.2.1, subst (λ z. Matches sort_of p z) rest h.3)
+
+not_one : (class : Sort → Bool) (a b : Token) (words : List Token) → Matches sort_of (One class) (a ∷ b ∷ words) → ⊥
+not_one class a b words h = let e : a ∷ b ∷ words ≡ h.0 ∷ [] = h.2 in cc
+
+not_none : (class : Sort → Bool) → Matches sort_of (One class) [] → ⊥
+not_none class h = let e : [] ≡ h.0 ∷ [] = h.2 in cc
+
+abbrev with_range : Pattern Sort
+with_range = Or end (Then number end)
+
+five_of_current : (word : Sort) (a b c d e : Token) → Matches sort_of (current_line word) (a ∷ b ∷ c ∷ d ∷ e ∷ []) → is_number (sort_of d) ≡ true
+five_of_current word a b c d e h =
+    let second = (peel (the word) (Then name (Then number with_range)) a (b ∷ c ∷ d ∷ e ∷ []) h).1 in
+    let third = (peel is_name (Then number with_range) b (c ∷ d ∷ e ∷ []) second).1 in
+    let rest : Matches sort_of with_range (d ∷ e ∷ []) = (peel is_number with_range c (d ∷ e ∷ []) third).1 in
+    elim rest [ inl z ↦ absurd (not_one is_end d e [] z) | inr z ↦ (peel is_number end d (e ∷ []) z).0 ]
+
+no_five_of_value : (word : Sort) (a b c d e : Token) → Matches sort_of (value_line word) (a ∷ b ∷ c ∷ d ∷ e ∷ []) → ⊥
+no_five_of_value word a b c d e h =
+    let second = (peel (the word) (Then name (Then number end)) a (b ∷ c ∷ d ∷ e ∷ []) h).1 in
+    let third = (peel is_name (Then number end) b (c ∷ d ∷ e ∷ []) second).1 in
+    not_one is_end d e [] (peel is_number end c (d ∷ e ∷ []) third).1
+
+no_five_of_pad : (a b c d e : Token) → Matches sort_of pad_line (a ∷ b ∷ c ∷ d ∷ e ∷ []) → ⊥
+no_five_of_pad a b c d e h =
+    let second = (peel (the Pad) (Then name (Then name (Then number (Then number end)))) a (b ∷ c ∷ d ∷ e ∷ []) h).1 in
+    let third = (peel is_name (Then name (Then number (Then number end))) b (c ∷ d ∷ e ∷ []) second).1 in
+    let fourth = (peel is_name (Then number (Then number end)) c (d ∷ e ∷ []) third).1 in
+    let fifth = (peel is_number (Then number end) d (e ∷ []) fourth).1 in
+    not_none is_end (peel is_number end e [] fifth).1
+
+-- Of a whole unit of five words the fourth stands in the place of a number.
+fourth_number : (section : Section) (a b c d e : Token) → Matches sort_of (pattern section) (a ∷ b ∷ c ∷ d ∷ e ∷ []) → is_number (sort_of d) ≡ true
+fourth_number LineStart a b c d e h = elim h [
+  | inl x ↦ absurd (no_five_of_value Supply a b c d e x)
+  | inr x ↦ elim x [
+    | inl y ↦ absurd (no_five_of_value DropLimit a b c d e y)
+    | inr y ↦ elim y [
+      | inl z ↦ absurd (no_five_of_pad a b c d e z)
+      | inr z ↦ elim z [
+        | inl u ↦ five_of_current Cell a b c d e u
+        | inr u ↦ elim u [
+          | inl v ↦ five_of_current Instance a b c d e v
+          | inr v ↦ absurd (not_one is_end a b (c ∷ d ∷ e ∷ []) v)
+        ]
+      ]
+    ]
+  ]
+]
+fourth_number Remark a b c d e h = absurd (not_one is_any a b (c ∷ d ∷ e ∷ []) h)
+fourth_number Nothing a b c d e h = absurd h
+
+not_below : (a b : ℤ) → (b <ℤ a → ⊥) → a ≤ℤ b
+not_below a b h = grind (arith, ints)
+
+-- What is found of a line with one current, and of one with two.
+pub current_found : (word : Sort) (first name value stop : Token) (found : NameAmps) → has_range word ≡ true → the word (sort_of first) ≡ true →
+    found.line ≡ first.place.line → found.name.now ≡ name.text → (ShowsNone amperes value.text → IsNumberAt amperes value.text (Ok found.low)) → found.high ≡ found.low →
+    FindsAmps word (first ∷ name ∷ value ∷ stop ∷ []) (Some found)
+current_found word first name value stop found range is line named low high =
+    let begun : sort_of first ≡ word = begun_with word _ is in (
+      has_both _ _ (range_value word range) is,
+      (line, named),
+      λ units t. (
+        low (λ kind n. t.fine.1.1.0 (record { at = 2; kind = kind }) (refl, subst (λ z. ValueFault z value.text kind) (sym begun) (range_faults word range value.text kind n))),
+        high,
+      ),
+    )
+
+pub range_found : (word : Sort) (first name low high stop : Token) (found : NameAmps) → has_range word ≡ true → the word (sort_of first) ≡ true →
+    found.line ≡ first.place.line → found.name.now ≡ name.text → (ShowsNone amperes low.text → IsNumberAt amperes low.text (Ok found.low)) →
+    (ShowsNone amperes high.text → IsNumberAt amperes high.text (Ok found.high)) → FindsAmps word (first ∷ name ∷ low ∷ high ∷ stop ∷ []) (Some found)
+range_found word first name low high stop found range is line named least_at greatest_at =
+    let begun : sort_of first ≡ word = begun_with word _ is in (
+      has_both _ _ range is,
+      (line, named),
+      λ units t.
+          let stands = fourth_number (section_of units) first name low high stop t.matches in
+          let none = λ (kind : BiasKind) (n : RangeFault low high kind). t.fine.1.1.1.0 (record { at = 3; kind = kind }) (refl, subst (λ z. FourthFault z low high kind) (sym begun) (falls_faults word range low high kind n)) in
+          let least : IsNumberAt amperes low.text (Ok found.low) =
+          least_at (λ kind n. t.fine.1.1.0 (record { at = 2; kind = kind }) (refl, subst (λ z. ValueFault z low.text kind) (sym begun) (range_faults word range low.text kind n))) in
+          let greatest : IsNumberAt amperes high.text (Ok found.high) = greatest_at (λ kind n. none kind (stands, inl n)) in
+          (least, greatest, not_below found.low found.high (λ below. none Falling (stands, inr (refl, (found.low, found.high, least, greatest, below))))),
+    )
+
+-- A line of a current is taken with the entry that is made of it.
+pub amps_taken : (word : Sort) (old new : NamedList Amps) (unit : List Token) (found : NameAmps) (name : List ℕ) (r : Result (Unit {0}) AllocError) →
+    has_range word ≡ true → FindsAmps word unit (Some found) → name ≡ found.name.now → OnOk r (TakesName old.names new.names found.name.now) →
+    OnOk r (new.entries ≡ old.entries ++ record { line = found.line; name = name; low = to_z w64 (of_z w64 found.low); high = to_z w64 (of_z w64 found.high) } ∷ []) →
+    OnOk r (Takes (HoldsLines SaysAmps word old) (HoldsLines SaysAmps word new) unit)
+amps_taken word old new (first ∷ named ∷ value ∷ stop ∷ []) found name r range h e taken entries =
+    line_taken SaysAmps word old new first named (value ∷ stop ∷ []) _ r (begun_with word _ (has_second _ _ h.0)) (range_value word range) h.0
+    (λ units t. let s = h.2 units t in
+    let kept = kept_64 found.low s.0.1.2.within in
+    let high_kept : to_z w64 (of_z w64 found.high) ≡ found.low = subst (λ z. to_z w64 (of_z w64 z) ≡ found.low) (sym s.1) kept in (
+      found.low,
+      s.0,
+      ap (λ z. the_amps (record { line = z; name = name; low = to_z w64 (of_z w64 found.low); high = to_z w64 (of_z w64 found.high) })) h.1.0
+          ∙ amps_is _ _ _ _ _ _ _ (e ∙ h.1.1) kept high_kept,
+    ))
+    (subst (λ z. OnOk r (TakesName old.names new.names z)) h.1.1 taken) entries
+amps_taken word old new (first ∷ named ∷ low ∷ high ∷ stop ∷ []) found name r range h e taken entries =
+    line_taken SaysAmps word old new first named (low ∷ high ∷ stop ∷ []) _ r (begun_with word _ (has_second _ _ h.0)) (range_value word range) h.0
+    (λ units t. let s = h.2 units t in (
+      found.low,
+      found.high,
+      s.0,
+      s.1,
+      s.2,
+      ap (λ z. the_amps (record { line = z; name = name; low = to_z w64 (of_z w64 found.low); high = to_z w64 (of_z w64 found.high) })) h.1.0
+          ∙ amps_is _ _ _ _ _ _ _ (e ∙ h.1.1) (kept_64 found.low s.0.1.2.within) (kept_64 found.high s.1.1.2.within),
+    ))
+    (subst (λ z. OnOk r (TakesName old.names new.names z)) h.1.1 taken) entries
+amps_taken word old new unit found name (Err x) range h e taken entries = tt
+amps_taken word old new unit found name (Ok x) range h e taken entries = λ units t k. absurd (h.2 units t)
 
 -- ## sections
 

@@ -1,16 +1,15 @@
 //! What has been read of a bias file.
 //!
-//! A number of a whole unit has shown no fault, so that it can be read. Where it could not, the answer is want of
-//! memory, which no clause ties to anything; it never comes.
-ghost use Rattle.std.specs.Prelude.{[], IfOk, OnOk, ◌≡◌, true, false, map};
+//! A whole unit that is taken has shown no fault, so that its numbers can be read. What only reads them has no error.
+ghost use Rattle.std.specs.Prelude.{[], IfOk, OnOk, Ok, ◌≡◌, ◌<◌, ◌^◌, true, false, length, map};
 ghost use Rattle.entry_list.specs.InTurn.{InTurn};
-ghost use Rattle.number_place.specs.Place.{CanRead};
+ghost use Rattle.number_place.specs.Place.{CanRead, IsNumberAt};
 ghost use Rattle.reading.specs.Word.{token};
 ghost use Rattle.bias_file.specs.declared.sort.Sort.TheVariants as sorts;
 ghost use Rattle.bias_file.specs.Rule.{lines, has_value, has_range};
 ghost use Rattle.bias_file.specs.Sort.{the, sort_of};
 ghost use Rattle.bias_file.specs.Record.{SaysSupply, SaysDropLimit, SaysAmps, SaysPad};
-ghost use Rattle.bias_file.specs.inside.Held.{HoldsLines, HoldsLists, Holds, Takes, FindsVolts};
+ghost use Rattle.bias_file.specs.inside.Held.{HoldsLines, HoldsLists, Holds, Takes, ShowsNone, FindsVolts, FindsAmps};
 
 use crate::number::{AMPERES, DROP_VOLTS, MICROMETRES, VOLTS};
 use crate::record::{Amps, DropLimit, PadAt, Supply};
@@ -73,6 +72,29 @@ fn begins(first: &Word<'_>, word: Sort) -> bool
     sort_of(first).number() == word.number()
 }
 
+/// The value of a text in a place. One that is refused there stands in no unit that is taken, and counts as 0.
+fn value_of(place: NumberPlace, text: &[u8]) -> i128
+    requires { CanRead place }
+    ensures { ShowsNone place text.now → IsNumberAt place text.now (Ok result) }
+{
+    match number_at(place, text) {
+        Ok(value) => value,
+        Err(_) => 0,
+    }
+}
+
+/// The same where the limit fits 64 bits.
+fn small_value_of(place: NumberPlace, text: &[u8]) -> i64
+    requires place { CanRead place }
+    requires small { place.limit < 2 ^ 63 }
+    ensures { ShowsNone place text.now → IsNumberAt place text.now (Ok result) }
+{
+    match small_number_at(place, text) {
+        Ok(value) => value,
+        Err(_) => 0,
+    }
+}
+
 /// A line `KEYWORD NET V`, taken apart.
 struct NetVolts<'a> {
     /// The number of the line, from 1.
@@ -83,30 +105,23 @@ struct NetVolts<'a> {
 }
 
 /// A unit taken apart, if it is the line `KEYWORD NET V` with this first word.
-fn net_volts<'a>(
-    word: Sort,
-    place: NumberPlace,
-    unit: &[Word<'a>],
-) -> Result<Option<NetVolts<'a>>, AllocError>
+fn net_volts<'a>(word: Sort, place: NumberPlace, unit: &[Word<'a>]) -> Option<NetVolts<'a>>
     requires can_read { CanRead place }
     requires value { has_value word ≡ true }
     requires no_range { has_range word ≡ false }
-    ensures { IfOk result (λ found. FindsVolts word place (map token unit.now) found) }
+    ensures { FindsVolts word place (map token unit.now) result }
 {
     let [first, net, value, _] = unit else {
-        return Ok(None);
+        return None;
     };
     if !begins(first, word) {
-        return Ok(None);
+        return None;
     }
-    let Ok(volts) = number_at(place, value.text) else {
-        return Err(AllocError);
-    };
-    Ok(Some(NetVolts {
+    Some(NetVolts {
         line: first.place.line,
         net: net.text,
-        volts,
-    }))
+        volts: value_of(place, value.text),
+    })
 }
 
 /// What a unit says if it is `supply NET V`.
@@ -118,7 +133,7 @@ pub(crate) fn take_supply<'a>(
     ensures { OnOk result (Takes (HoldsLines SaysSupply sorts.Supply supplies.old)
         (HoldsLines SaysSupply sorts.Supply supplies.new) (map token unit.now)) }
 {
-    let Some(NetVolts { line, net, volts }) = net_volts(Sort::Supply, VOLTS, unit)? else {
+    let Some(NetVolts { line, net, volts }) = net_volts(Sort::Supply, VOLTS, unit) else {
         return Ok(());
     };
     let supply = Supply {
@@ -138,7 +153,7 @@ pub(crate) fn take_drop<'a>(
     ensures { OnOk result (Takes (HoldsLines SaysDropLimit sorts.DropLimit drops.old)
         (HoldsLines SaysDropLimit sorts.DropLimit drops.new) (map token unit.now)) }
 {
-    let Some(NetVolts { line, net, volts }) = net_volts(Sort::DropLimit, DROP_VOLTS, unit)? else {
+    let Some(NetVolts { line, net, volts }) = net_volts(Sort::DropLimit, DROP_VOLTS, unit) else {
         return Ok(());
     };
     let limit = DropLimit {
@@ -164,84 +179,80 @@ pub(crate) fn take_pad(
     let Sort::Pad = sort_of(first) else {
         return Ok(());
     };
-    let Ok(x) = small_number_at(MICROMETRES, x.text) else {
-        return Err(AllocError);
-    };
-    let Ok(y) = small_number_at(MICROMETRES, y.text) else {
-        return Err(AllocError);
-    };
     pads.push(PadAt {
         line: first.place.line,
+        x: small_value_of(MICROMETRES, x.text),
+        y: small_value_of(MICROMETRES, y.text),
         net: Name::new(alloc, net.text)?,
         layer: Name::new(alloc, layer.text)?,
-        x,
-        y,
     })?;
     Ok(())
 }
 
-/// What a unit says if it is `cell MACRO I` or `instance NAME I`, by its first word.
-fn take_current<'a>(
-    currents: &mut NamedEntries<'a, Amps>,
-    word: Sort,
-    alloc: Global,
-    unit: &[Word<'a>],
-) -> Result<(), AllocError>
-    requires { has_range word ≡ true }
-    ensures { OnOk result (Takes (HoldsLines SaysAmps word currents.old) (HoldsLines SaysAmps word currents.new)
-        (map token unit.now)) }
-{
-    let [first, name, value, _] = unit else {
-        return Err(AllocError);
-    };
-    if !begins(first, word) {
-        return Ok(());
-    }
-    let Ok(current) = small_number_at(AMPERES, value.text) else {
-        return Err(AllocError);
-    };
-    let entry = Amps {
-        line: first.place.line,
-        name: Name::new(alloc, name.text)?,
-        low: current,
-        high: current,
-    };
-    currents.add(name.text, entry)
+/// A line of a current, taken apart.
+struct NameAmps<'a> {
+    /// The number of the line, from 1.
+    line: u64,
+    name: &'a [u8],
+    /// The least current in fA.
+    low: i64,
+    /// The greatest current in fA.
+    high: i64,
 }
 
-/// What a unit says if it is `cell MACRO LOW HIGH` or `instance NAME LOW HIGH`, by its first word.
-fn take_range<'a>(
-    currents: &mut NamedEntries<'a, Amps>,
-    word: Sort,
-    alloc: Global,
-    unit: &[Word<'a>],
-) -> Result<(), AllocError>
-    requires { has_range word ≡ true }
-    ensures { OnOk result (Takes (HoldsLines SaysAmps word currents.old) (HoldsLines SaysAmps word currents.new)
-        (map token unit.now)) }
+/// The same of four words: `cell MACRO I` or `instance NAME I`.
+fn one_current<'a>(word: Sort, unit: &[Word<'a>]) -> Option<NameAmps<'a>>
+    requires word { has_range word ≡ true }
+    requires four { length unit.now ≡ 4 }
+    ensures { FindsAmps word (map token unit.now) result }
 {
-    let [first, name, low, high, _] = unit else {
-        return Err(AllocError);
+    let [first, name, value, _] = unit else {
+        unreachable!();
     };
     if !begins(first, word) {
-        return Ok(());
+        return None;
     }
-    let Ok(least) = small_number_at(AMPERES, low.text) else {
-        return Err(AllocError);
-    };
-    let Ok(greatest) = small_number_at(AMPERES, high.text) else {
-        return Err(AllocError);
-    };
-    if greatest < least {
-        return Err(AllocError);
-    }
-    let entry = Amps {
+    let current = small_value_of(AMPERES, value.text);
+    Some(NameAmps {
         line: first.place.line,
-        name: Name::new(alloc, name.text)?,
+        name: name.text,
+        low: current,
+        high: current,
+    })
+}
+
+/// The same of five words: `cell MACRO LOW HIGH` or `instance NAME LOW HIGH`.
+fn current_range<'a>(word: Sort, unit: &[Word<'a>]) -> Option<NameAmps<'a>>
+    requires word { has_range word ≡ true }
+    requires five { length unit.now ≡ 5 }
+    ensures { FindsAmps word (map token unit.now) result }
+{
+    let [first, name, low, high, _] = unit else {
+        unreachable!();
+    };
+    if !begins(first, word) {
+        return None;
+    }
+    let least = small_value_of(AMPERES, low.text);
+    let greatest = small_value_of(AMPERES, high.text);
+    Some(NameAmps {
+        line: first.place.line,
+        name: name.text,
         low: least,
         high: greatest,
-    };
-    currents.add(name.text, entry)
+    })
+}
+
+/// A unit taken apart, if it is a line of a current with this first word.
+fn name_amps<'a>(word: Sort, unit: &[Word<'a>]) -> Option<NameAmps<'a>>
+    requires { has_range word ≡ true }
+    ensures { FindsAmps word (map token unit.now) result }
+{
+    match unit.len() {
+        4 => one_current(word, unit),
+        5 => current_range(word, unit),
+        _ => None,
+    }
 }
 
 /// What a unit says if it is a line of a current with this first word.
@@ -255,9 +266,22 @@ pub(crate) fn take_amps<'a>(
     ensures { OnOk result (Takes (HoldsLines SaysAmps word currents.old) (HoldsLines SaysAmps word currents.new)
         (map token unit.now)) }
 {
-    match unit.len() {
-        4 => take_current(currents, word, alloc, unit),
-        5 => take_range(currents, word, alloc, unit),
-        _ => Ok(()),
-    }
+    let Some(
+        NameAmps {
+            line,
+            name,
+            low,
+            high,
+        },
+    ) = name_amps(word, unit)
+    else {
+        return Ok(());
+    };
+    let entry = Amps {
+        line,
+        name: Name::new(alloc, name)?,
+        low,
+        high,
+    };
+    currents.add(name, entry)
 }

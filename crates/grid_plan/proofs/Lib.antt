@@ -1,3 +1,5 @@
 pub mod Ordered
 pub mod Stepped
+mod Nothing
+mod Kept
 mod Refusals

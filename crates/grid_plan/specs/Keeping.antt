@@ -1,5 +1,5 @@
 -- What every plan keeps: numbers within their limits, and each place below the count of the list that it names.
-use Rattle.std.specs.Prelude.{◌≡◌, ◌≢◌, ℕ, ℤ, pos, ◌<◌, ◌≤◌, ◌+◌, ◌^◌, ◌≤ℤ◌, ◌<ℤ◌, unsigned_abs, false, List, [], All, length, map, slice_index_or, Option, Some, None}
+use Rattle.std.specs.Prelude.{◌≡◌, ◌≢◌, ℕ, ℤ, pos, ◌<◌, ◌≤◌, ◌+◌, ◌*◌, ◌^◌, ◌≤ℤ◌, ◌<ℤ◌, unsigned_abs, false, List, [], All, length, map, slice_index_or, Option, Some, None}
 use Rattle.geom_rect.specs.declared.direction.Axis.TheVariants.{X, Y}
 use Rattle.geom_rect.specs.declared.rect.Rect.{Rect}
 use Rattle.geom_rect.specs.Drawn.{IsWidth}
@@ -20,6 +20,11 @@ use Rattle.grid_plan.specs.declared.record.Straps.{Straps}
 -- A number is at most so far from 0.
 abbrev pub IsNear : ℕ → ℤ → Type 0
 IsNear most z = unsigned_abs z ≤ most
+
+-- The edges of rows are at most so far from 0: a row begins within 2^30 of 0, and has at most 2^30 sites, of which none is
+-- wider than 100 mm of 20000 units a micrometre.
+abbrev pub most_of_rows : ℕ
+most_of_rows = 2 ^ 30 + 2 ^ 30 * 2000000000
 
 -- A rectangle is in order, and its edges are at most so far from 0.
 pub record LiesNear (most : ℕ) (rect : Rect) : Type 0 where
@@ -99,7 +104,7 @@ pub record PlanKeeps (tech : Tech) (plan : Plan) : Type 0 where
   pub powers : length plan.power ≡ length plan.nets
   pub domains : All (DomainKeeps plan) plan.domains
   pub grids : All (GridKeeps plan) plan.grids
-  pub rows : All (λ (row : RowBox). LiesNear (2 ^ 60 + 2 ^ 34) row.rect) plan.rows
+  pub rows : All (λ (row : RowBox). LiesNear most_of_rows row.rect) plan.rows
   pub straps : All (StrapsKeep tech plan) plan.straps
   pub rails : All (RailsKeep tech plan) plan.rails
   pub rings : All (RingKeeps tech plan) plan.rings

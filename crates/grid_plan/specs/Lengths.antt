@@ -1,10 +1,8 @@
 -- The lengths that are no whole number of units, and the widths that are odd in units: those of the script's stripes and
 -- rings in the order of their places, in one command in the order of its options, and then those of the rows' sites.
-use Rattle.std.specs.Prelude.{ℕ, Bool, not, ◌*◌, ◌%◌, if◌then◌else◌, List, [], ◌∷◌, ◌++◌, Option, Some, None}
+use Rattle.std.specs.Prelude.{ℕ, ◌*◌, ◌%◌, if◌then◌else◌, List, [], ◌∷◌, ◌++◌, Option, Some, None}
 use Rattle.std.specs.Bool.{nat_eq}
-use Rattle.std.specs.List.{find}
 use Rattle.std.specs.Option.{option_or, option_to_list}
-use Rattle.outside.specs.declared.place.Place.{Place}
 use Rattle.lef_cells.specs.declared.record.Cells.{Cells}
 use Rattle.def_design.specs.declared.record.Design.{Design}
 use Rattle.def_design.specs.declared.record.Row.{Row}

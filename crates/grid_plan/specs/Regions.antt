@@ -14,7 +14,6 @@ use Rattle.def_design.specs.declared.record.Fence.{Fence}
 use Rattle.pdn_script.specs.declared.record.Domain.{Domain}
 use Rattle.rail_layout.specs.declared.row.RowBox.{RowBox}
 use Rattle.grid_cores.specs.Owner.{lies_in, rows_of}
-use Rattle.grid_pieces.specs.declared.grid.DomainAt.{DomainAt}
 use Rattle.grid_plan.specs.declared.record.GridAt.{GridAt}
 use Rattle.grid_plan.specs.Names.{Names, place_in}
 use Rattle.grid_plan.specs.Order.{first_place}

@@ -1,13 +1,12 @@
 -- What the commands of a script say, with places for names and units for lengths (OpenROAD PDN manual, set_voltage_domain,
 -- define_pdn_grid, add_pdn_stripe, add_pdn_ring and add_pdn_connect).
-use Rattle.std.specs.Prelude.{◌≡◌, ℕ, ℤ, pos, ◌+◌, ◌-◌, ◌*◌, ◌/◌, ◌%◌, ◌+ℤ◌, min, max, true, false, Bool, not, ◌&&◌, if◌then◌else◌, List, [], ◌∷◌, ◌++◌, map, filter, filter_map, length, slice_index_or, slice_get, reverse, Option, Some, None}
+use Rattle.std.specs.Prelude.{◌≡◌, ℕ, ℤ, pos, ◌-◌, ◌*◌, ◌/◌, ◌%◌, ◌+ℤ◌, min, max, true, false, Bool, if◌then◌else◌, List, map, length, slice_index_or, slice_get, reverse, Option, Some, None}
 use Rattle.std.specs.Int.{div_ceil}
 use Rattle.std.specs.Option.{unwrap_or, option_map}
 use Rattle.geom_rect.specs.declared.direction.Axis.{Axis}
 use Rattle.geom_rect.specs.declared.direction.Axis.TheVariants.{X, Y}
 use Rattle.geom_rect.specs.declared.rect.Rect.{Rect}
 use Rattle.geom_rect.specs.Rect.{grown_by}
-use Rattle.outside.specs.declared.place.Place.{Place}
 use Rattle.lef_tech.specs.declared.layer.LayerRef.{LayerRef}
 use Rattle.lef_tech.specs.declared.layer.LayerRef.TheVariants.{Routing, Cut}
 use Rattle.lef_tech.specs.declared.layer.RoutingLayer.{RoutingLayer}
@@ -37,8 +36,8 @@ use Rattle.grid_plan.specs.declared.record.Reach.{Reach}
 use Rattle.grid_plan.specs.declared.record.Reach.TheVariants as reaches
 use Rattle.grid_plan.specs.declared.record.RingAt.{RingAt}
 use Rattle.grid_plan.specs.declared.record.Straps.{Straps}
-use Rattle.grid_plan.specs.Names.{Names, place_in, domain_nets}
-use Rattle.grid_plan.specs.Unknown.{domain_of, grid_nets}
+use Rattle.grid_plan.specs.Names.{Names, place_in}
+use Rattle.grid_plan.specs.Unknown.{grid_nets}
 
 -- ## lengths
 

@@ -1,5 +1,5 @@
 -- The boxes of the rows (LEF/DEF 5.8 Language Reference, ROW and SITE).
-use Rattle.std.specs.Prelude.{ℕ, ℤ, pos, ◌+ℤ◌, ◌-ℤ◌, ◌*ℤ◌, Bool, true, false, List, map, slice_index_or}
+use Rattle.std.specs.Prelude.{ℕ, ℤ, pos, ◌+ℤ◌, ◌-ℤ◌, ◌*ℤ◌, Bool, true, false, map, slice_index_or}
 use Rattle.std.specs.Option.{unwrap_or}
 use Rattle.geom_rect.specs.declared.direction.Orient.{Orient}
 use Rattle.geom_rect.specs.declared.direction.Orient.TheVariants as orients

@@ -3,7 +3,7 @@
 --
 -- In one command names are asked in the order of the options. Each list of the script stands in the order of its commands,
 -- so that the earliest of all is among the first of each list.
-use Rattle.std.specs.Prelude.{ℕ, if◌then◌else◌, List, [], ◌∷◌, map, slice_index_or, Option, Some, None}
+use Rattle.std.specs.Prelude.{ℕ, if◌then◌else◌, List, [], map, slice_index_or, Option, Some, None}
 use Rattle.std.specs.Option.{is_some, option_or}
 use Rattle.name_places.specs.Places.{place_of}
 use Rattle.outside.specs.declared.place.Place.{Place}

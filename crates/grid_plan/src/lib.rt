@@ -7,7 +7,6 @@
 mod blocks;
 mod commands;
 mod domains;
-mod keeping;
 mod lengths;
 mod nets;
 mod order;

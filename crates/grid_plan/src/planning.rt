@@ -4,7 +4,6 @@ ghost use Rattle.lef_tech.specs.Limits.{TechKeeps};
 ghost use Rattle.lef_cells.specs.Limits.{CellsKeep};
 ghost use Rattle.def_design.specs.Limits.{DesignKeeps};
 ghost use Rattle.pdn_script.specs.Limits.{ScriptKeeps};
-ghost use Rattle.grid_pieces.specs.declared.error.DrawError.TheVariants.{Want};
 ghost use Rattle.grid_plan.specs.Keeping.{PlanKeeps};
 ghost use Rattle.grid_plan.specs.Names.{AreNets};
 ghost use Rattle.grid_plan.specs.Planning.{IsPlanOf, IsPlanRefused, Plans, name_refusal, length_refusal, region_refusal};
@@ -15,7 +14,6 @@ ghost use Rattle.grid_plan.specs.inside.Tables.{names_in};
 use crate::blocks::blocks;
 use crate::commands::{connects, rails, rings, straps};
 use crate::domains::{domains, grids, regions};
-use crate::keeping::plan_keeps;
 use crate::lengths::check_lengths;
 use crate::nets::{copied, nets, powers};
 use crate::record::Plan;
@@ -51,10 +49,7 @@ pub fn plan(
         (IsPlanRefused tech.now cells.now design.now script.now) }
     ensures keeps { IfOk result (PlanKeeps tech.now) }
 {
-    match found(alloc, tech, cells, design, script) {
-        Ok(plan) => kept(alloc, tech, plan),
-        Err(error) => Err(error),
-    }
+    found(alloc, tech, cells, design, script)
 }
 
 // The same, of which it is not known yet what it keeps.
@@ -70,18 +65,6 @@ fn found(
 {
     let tables = tables_of(alloc, tech, cells, design, script)?;
     plan_of(alloc, tech, cells, &tables, design, script)
-}
-
-// The plan, which keeps its limits.
-fn kept(alloc: Global, tech: &Tech, plan: Plan) -> Result<Plan, DrawError>
-    ensures same { MatchResult result (λ kept. kept ≡ plan) (λ error. error ≡ Want) }
-    ensures keeps { IfOk result (PlanKeeps tech.now) }
-{
-    if plan_keeps(alloc, tech, &plan)? {
-        Ok(plan)
-    } else {
-        Err(DrawError::Want)
-    }
 }
 
 // The plan over tables of the names.

@@ -1,6 +1,7 @@
 //! Lengths in units of the drawing.
 //!
-//! A number that does not fit is answered as want of memory. No record within the limits of its reader has one.
+//! A number that does not fit is answered as want of memory. Lengths of 100 mm at 20000 units a micrometre fit, and so do the places in
+//! lists of a text of 2^28 bytes.
 ghost use Rattle.std.specs.Prelude.{◌≡◌, ◌*◌, ◌+ℤ◌, ◌-ℤ◌, IfOk, Some, pos};
 ghost use Rattle.std.specs.Int.{div_ceil};
 ghost use Rattle.grid_plan.specs.Resolved.{length_of};

@@ -15,7 +15,7 @@ use Rattle.strap_layout.specs.Lines.{LineAt, across, centre_of, IsDrawnLine, str
 use Rattle.grid_cores.specs.Line.{AreLineShapes, AreLinesShapes, LineKeeps, over_run, regions_over}
 use Rattle.grid_plan.specs.declared.record.Plan.{Plan}
 use Rattle.grid_plan.specs.declared.record.Straps.{Straps}
-use Rattle.grid_plan.specs.Keeping.{StrapsKeep, LiesNear}
+use Rattle.grid_plan.specs.Keeping.{StrapsKeep, LiesNear, most_of_rows}
 use Rattle.grid_shapes.specs.inside.Sites.{ShapeKeeps}
 use Rattle.grid_shapes.proofs.Coordinates.{RunFits, coordinate, centred_fits, width_keeps, line_keeps, halves, edge_low, edge_high, end_low, end_high}
 
@@ -87,9 +87,9 @@ all_left_keep tech plan regions (line ∷ lines) shapes keep (first, rest, is, a
     (all_left_keep tech plan regions lines rest (All-tail (ShapeKeeps tech plan) line lines keep) are))
 
 -- Straps.
-core_low : (axis : Axis) (core : Rect) → LiesNear (2 ^ 60 + 2 ^ 34) core → IsCoordinate (across axis core).from × IsCoordinate (across axis core).to
-core_low X core near = (coordinate (2 ^ 60 + 2 ^ 34) core.y1 (omega arith) near.y1, coordinate (2 ^ 60 + 2 ^ 34) core.y2 (omega arith) near.y2)
-core_low Y core near = (coordinate (2 ^ 60 + 2 ^ 34) core.x1 (omega arith) near.x1, coordinate (2 ^ 60 + 2 ^ 34) core.x2 (omega arith) near.x2)
+core_low : (axis : Axis) (core : Rect) → LiesNear most_of_rows core → IsCoordinate (across axis core).from × IsCoordinate (across axis core).to
+core_low X core near = (coordinate most_of_rows core.y1 (omega arith) near.y1, coordinate most_of_rows core.y2 (omega arith) near.y2)
+core_low Y core near = (coordinate most_of_rows core.x1 (omega arith) near.x1, coordinate most_of_rows core.x2 (omega arith) near.x2)
 
 edges_in : (low high centre by : ℤ) → IsCoordinate low → IsCoordinate high → pos 0 <ℤ by → low ≤ℤ (centre -ℤ by) → (centre +ℤ by) ≤ℤ high
     → IsCoordinate (centre -ℤ by) × IsCoordinate (centre +ℤ by)
@@ -99,7 +99,7 @@ edges_in low high centre by at_low at_high some from to =
     ((omega (arith, ints), omega (arith, ints)), (omega (arith, ints), omega (arith, ints)))
 
 strap_keeps : (tech : Tech) (plan : Plan) (straps : Straps) (core : Rect) (reaches : List Run) (line : LineAt) → StrapsKeep tech plan straps
-    → LiesNear (2 ^ 60 + 2 ^ 34) core → All RunFits reaches → length reaches ≡ length straps.rule.nets → IsDrawnLine straps.rule core line
+    → LiesNear most_of_rows core → All RunFits reaches → length reaches ≡ length straps.rule.nets → IsDrawnLine straps.rule core line
     → ShapeKeeps tech plan (strap_of straps.rule core reaches line)
 strap_keeps tech plan straps core reaches line keeps near fit as_many is =
     let rule = straps.rule in
@@ -120,7 +120,7 @@ strap_keeps tech plan straps core reaches line keeps near fit as_many is =
     }
 
 pub straps_keep : (tech : Tech) (plan : Plan) (straps : Straps) (core : Rect) (reaches : List Run) (lines : List Drawn) → StrapsKeep tech plan straps
-    → LiesNear (2 ^ 60 + 2 ^ 34) core → All RunFits reaches → length reaches ≡ length straps.rule.nets → AreStraps straps.rule core reaches lines
+    → LiesNear most_of_rows core → All RunFits reaches → length reaches ≡ length straps.rule.nets → AreStraps straps.rule core reaches lines
     → All (ShapeKeeps tech plan) lines
 straps_keep tech plan straps core reaches lines keeps near fit as_many are =
     All-same (ShapeKeeps tech plan) lines (map (strap_of straps.rule core reaches) are.lines) are.drawn

@@ -12,7 +12,7 @@ use Rattle.rail_layout.specs.Rails.{rails_of, rails_of_row, rail_at, run_or, low
 use Rattle.grid_pieces.specs.declared.grid.DomainAt.{DomainAt}
 use Rattle.grid_plan.specs.declared.record.Plan.{Plan}
 use Rattle.grid_plan.specs.declared.record.Rails.{Rails}
-use Rattle.grid_plan.specs.Keeping.{PlanKeeps, RailsKeep, DomainKeeps, LiesNear, IsNear, IsLineWidth}
+use Rattle.grid_plan.specs.Keeping.{PlanKeeps, RailsKeep, DomainKeeps, LiesNear, IsNear, IsLineWidth, most_of_rows}
 use Rattle.grid_shapes.specs.Shapes.{IsRailRule}
 use Rattle.grid_shapes.specs.Site.{sides_at}
 use Rattle.grid_shapes.specs.inside.Sites.{ShapeKeeps}
@@ -46,18 +46,18 @@ rule_keeps tech plan rails core domain rule keeps rails_keep domain_keeps sides 
       upper_reach = subst (λ (r : Option Run). IfSome r RunFits) (sym is.upper_reach) (stated_fits tech plan rails.reach X plan.die ring_sides domain.power keeps.die sides);
     }
 
-run_fits : (stated : Option Run) (row : RowBox) → IfSome stated RunFits → LiesNear (2 ^ 60 + 2 ^ 34) row.rect → RunFits (run_or stated row)
+run_fits : (stated : Option Run) (row : RowBox) → IfSome stated RunFits → LiesNear most_of_rows row.rect → RunFits (run_or stated row)
 run_fits (Some run) row fits near = fits
 run_fits None row fits near =
-    record { from = coordinate (2 ^ 60 + 2 ^ 34) row.rect.x1 (omega arith) near.x1; to = coordinate (2 ^ 60 + 2 ^ 34) row.rect.x2 (omega arith) near.x2 }
+    record { from = coordinate most_of_rows row.rect.x1 (omega arith) near.x1; to = coordinate most_of_rows row.rect.x2 (omega arith) near.x2 }
 
 rail_keeps : (tech : Tech) (plan : Plan) (rule : RailRule) (row : RowBox) (height : ℤ) (is_power : Bool) → RuleKeeps tech plan rule
-    → LiesNear (2 ^ 60 + 2 ^ 34) row.rect → IsNear (2 ^ 60 + 2 ^ 34) height
+    → LiesNear most_of_rows row.rect → IsNear most_of_rows height
     → ShapeKeeps tech plan (rail_at rule row (record { height = height; is_power = is_power }))
 rail_keeps tech plan rule row height true keeps near at =
     let even = even_from rule.width keeps.width in
-    let low = low_of (2 ^ 60 + 2 ^ 34) height at in
-    let high = high_of (2 ^ 60 + 2 ^ 34) height at in
+    let low = low_of most_of_rows height at in
+    let high = high_of most_of_rows height at in
     let run = run_or rule.power_reach row in
     let fits = run_fits rule.power_reach row keeps.upper_reach near in
     record {
@@ -69,8 +69,8 @@ rail_keeps tech plan rule row height true keeps near at =
     }
 rail_keeps tech plan rule row height false keeps near at =
     let even = even_from rule.width keeps.width in
-    let low = low_of (2 ^ 60 + 2 ^ 34) height at in
-    let high = high_of (2 ^ 60 + 2 ^ 34) height at in
+    let low = low_of most_of_rows height at in
+    let high = high_of most_of_rows height at in
     let run = run_or rule.ground_reach row in
     let fits = run_fits rule.ground_reach row keeps.lower_reach near in
     record {
@@ -82,8 +82,8 @@ rail_keeps tech plan rule row height false keeps near at =
     }
 
 pub rails_keep : (tech : Tech) (plan : Plan) (rule : RailRule) (rows : List RowBox) → RuleKeeps tech plan rule
-    → All (λ (row : RowBox). LiesNear (2 ^ 60 + 2 ^ 34) row.rect) rows → All (ShapeKeeps tech plan) (rails_of rule rows)
+    → All (λ (row : RowBox). LiesNear most_of_rows row.rect) rows → All (ShapeKeeps tech plan) (rails_of rule rows)
 rails_keep tech plan rule rows keeps near =
-    All-flat_map (λ (row : RowBox). LiesNear (2 ^ 60 + 2 ^ 34) row.rect) (ShapeKeeps tech plan) (rails_of_row rule)
+    All-flat_map (λ (row : RowBox). LiesNear most_of_rows row.rect) (ShapeKeeps tech plan) (rails_of_row rule)
     (λ row is. all_two (ShapeKeeps tech plan) (rail_at rule row (lower_edge row)) (rail_at rule row (upper_edge row))
     (rail_keeps tech plan rule row row.rect.y1 row.flipped keeps is is.y1) (rail_keeps tech plan rule row row.rect.y2 (not row.flipped) keeps is is.y2)) rows near

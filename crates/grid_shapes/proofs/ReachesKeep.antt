@@ -18,7 +18,7 @@ use Rattle.grid_plan.specs.declared.record.Rails.{Rails}
 use Rattle.grid_plan.specs.declared.record.Reach.{Reach}
 use Rattle.grid_plan.specs.declared.record.Reach.TheVariants as reaches
 use Rattle.grid_plan.specs.declared.record.Straps.{Straps}
-use Rattle.grid_plan.specs.Keeping.{PlanKeeps, LiesNear, IsLineWidth}
+use Rattle.grid_plan.specs.Keeping.{PlanKeeps, LiesNear, IsLineWidth, most_of_rows}
 use Rattle.grid_shapes.specs.Site.{is_side, ring_reach, stated_reach, strap_reaches, sides_at, widest_at, widest_of}
 use Rattle.grid_shapes.specs.inside.Sites.{ShapeKeeps, IsEvenWidth}
 use Rattle.grid_shapes.proofs.Coordinates.{RunFits, coordinate, end_low, end_high}
@@ -67,33 +67,33 @@ plan_widest_of tech plan keeps =
     widest_even _ (All-filter _ (λ (r : Rails). IsLineWidth r.width) plan.rails (λ k d within. (keeps.rails k d within).width))
 
 -- The core grown by half of a width.
-pub grown_low : (z w : ℤ) → pos 0 ≤ℤ (z +ℤ pos (2 ^ 60 + 2 ^ 34)) → z ≤ℤ pos (2 ^ 60 + 2 ^ 34) → IsEvenWidth w → IsCoordinate (z -ℤ half w)
+pub grown_low : (z w : ℤ) → pos 0 ≤ℤ (z +ℤ pos most_of_rows) → z ≤ℤ pos most_of_rows → IsEvenWidth w → IsCoordinate (z -ℤ half w)
 grown_low z w low high even =
     let least = even.0.0 in
     let most = even.0.1 in
     let twice = even.1 in
     (omega (arith, ints), omega (arith, ints))
 
-pub grown_high : (z w : ℤ) → pos 0 ≤ℤ (z +ℤ pos (2 ^ 60 + 2 ^ 34)) → z ≤ℤ pos (2 ^ 60 + 2 ^ 34) → IsEvenWidth w → IsCoordinate (z +ℤ half w)
+pub grown_high : (z w : ℤ) → pos 0 ≤ℤ (z +ℤ pos most_of_rows) → z ≤ℤ pos most_of_rows → IsEvenWidth w → IsCoordinate (z +ℤ half w)
 grown_high z w low high even =
     let least = even.0.0 in
     let most = even.0.1 in
     let twice = even.1 in
     (omega (arith, ints), omega (arith, ints))
 
-core_reach_fits : (axis : Axis) (w : ℤ) (core : Rect) → LiesNear (2 ^ 60 + 2 ^ 34) core → IsEvenWidth w → RunFits (strap_reach axis w core)
+core_reach_fits : (axis : Axis) (w : ℤ) (core : Rect) → LiesNear most_of_rows core → IsEvenWidth w → RunFits (strap_reach axis w core)
 core_reach_fits X w core near even =
-    record { from = coordinate (2 ^ 60 + 2 ^ 34) core.x1 (omega arith) near.x1; to = coordinate (2 ^ 60 + 2 ^ 34) core.x2 (omega arith) near.x2 }
+    record { from = coordinate most_of_rows core.x1 (omega arith) near.x1; to = coordinate most_of_rows core.x2 (omega arith) near.x2 }
 core_reach_fits Y w core near even = record {
-  from = grown_low core.y1 w (low_of (2 ^ 60 + 2 ^ 34) core.y1 near.y1) (high_of (2 ^ 60 + 2 ^ 34) core.y1 near.y1) even;
-  to = grown_high core.y2 w (low_of (2 ^ 60 + 2 ^ 34) core.y2 near.y2) (high_of (2 ^ 60 + 2 ^ 34) core.y2 near.y2) even;
+  from = grown_low core.y1 w (low_of most_of_rows core.y1 near.y1) (high_of most_of_rows core.y1 near.y1) even;
+  to = grown_high core.y2 w (low_of most_of_rows core.y2 near.y2) (high_of most_of_rows core.y2 near.y2) even;
 }
 
 pub else_fits : (stated : Option Run) (run : Run) → IfSome stated RunFits → RunFits run → RunFits (unwrap_or stated run)
 else_fits None run fits otherwise = otherwise
 else_fits (Some stated) run fits otherwise = fits
 
-pub reaches_fit : (tech : Tech) (plan : Plan) (straps : Straps) (core : Rect) → PlanKeeps tech plan → LiesNear (2 ^ 60 + 2 ^ 34) core
+pub reaches_fit : (tech : Tech) (plan : Plan) (straps : Straps) (core : Rect) → PlanKeeps tech plan → LiesNear most_of_rows core
     → All (ShapeKeeps tech plan) (sides_at plan straps.grid core) → All RunFits (strap_reaches plan straps core)
 reaches_fit tech plan straps core keeps near sides =
     let axis = straps.rule.axis in

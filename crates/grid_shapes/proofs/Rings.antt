@@ -9,7 +9,7 @@ use Rattle.geom_rect.specs.Drawn.{half, drawn_rect}
 use Rattle.geom_rect.specs.Rect.{IsCoordinate, HasCoordinates}
 use Rattle.ring_layout.specs.Rings.{taken, outer_edges, vertical_side, horizontal_side, FitDrawing}
 use Rattle.grid_plan.specs.declared.record.RingAt.{RingAt}
-use Rattle.grid_plan.specs.Keeping.{IsLength, IsLineWidth}
+use Rattle.grid_plan.specs.Keeping.{IsLength, IsLineWidth, most_of_rows}
 use Rattle.grid_shapes.specs.Shapes.{most_lines}
 use Rattle.grid_shapes.specs.inside.Sites.{RingFits}
 use Rattle.grid_shapes.proofs.Cores.{low_of, high_of}
@@ -31,14 +31,14 @@ taken_high place (pos a) (negsuc b) few w_small s_small wide apart = absurd (ome
 taken_high place (negsuc a) s few w_small s_small wide apart = absurd (omega (arith, ints))
 
 -- An edge of a core, and what lies between it and the outer edge of a ring.
-lower_edge : (z by used : ℤ) → pos 0 ≤ℤ (z +ℤ pos (2 ^ 60 + 2 ^ 34)) → z ≤ℤ pos (2 ^ 60 + 2 ^ 34) → IsLength by → pos 0 ≤ℤ used → used ≤ℤ pos (2 ^ 52)
+lower_edge : (z by used : ℤ) → pos 0 ≤ℤ (z +ℤ pos most_of_rows) → z ≤ℤ pos most_of_rows → IsLength by → pos 0 ≤ℤ used → used ≤ℤ pos (2 ^ 52)
     → IsCoordinate (z -ℤ by -ℤ used) × IsCoordinate (z -ℤ by -ℤ used +ℤ pos (2 ^ 32))
 lower_edge z by used low high long_by small large =
     let short = long_by.0 in
     let long = long_by.1 in
     ((omega (arith, ints), omega (arith, ints)), (omega (arith, ints), omega (arith, ints)))
 
-upper_edge : (z by used : ℤ) → pos 0 ≤ℤ (z +ℤ pos (2 ^ 60 + 2 ^ 34)) → z ≤ℤ pos (2 ^ 60 + 2 ^ 34) → IsLength by → pos 0 ≤ℤ used → used ≤ℤ pos (2 ^ 52)
+upper_edge : (z by used : ℤ) → pos 0 ≤ℤ (z +ℤ pos most_of_rows) → z ≤ℤ pos most_of_rows → IsLength by → pos 0 ≤ℤ used → used ≤ℤ pos (2 ^ 52)
     → IsCoordinate (z +ℤ by +ℤ used) × IsCoordinate (z +ℤ by +ℤ used -ℤ pos (2 ^ 32))
 upper_edge z by used low high long_by small large =
     let short = long_by.0 in
@@ -56,14 +56,14 @@ record Outward (z : ℤ) (w : ℤ) : Type 0 where
   pub low : IsCoordinate (z -ℤ half w -ℤ half w)
   pub high : IsCoordinate (z -ℤ half w +ℤ half w)
 
-inward : (z by used w : ℤ) → pos 0 ≤ℤ (z +ℤ pos (2 ^ 60 + 2 ^ 34)) → z ≤ℤ pos (2 ^ 60 + 2 ^ 34) → IsLength by → pos 0 ≤ℤ used → used ≤ℤ pos (2 ^ 52)
+inward : (z by used w : ℤ) → pos 0 ≤ℤ (z +ℤ pos most_of_rows) → z ≤ℤ pos most_of_rows → IsLength by → pos 0 ≤ℤ used → used ≤ℤ pos (2 ^ 52)
     → IsLineWidth w → Inward (z -ℤ by -ℤ used) w
 inward z by used w low high long_by small large wide =
     let edge = lower_edge z by used low high long_by small large in
     let half_wide = halves w wide in
     record { edge = edge.0; low = (omega (arith, ints), omega (arith, ints)); high = (omega (arith, ints), omega (arith, ints)) }
 
-outward : (z by used w : ℤ) → pos 0 ≤ℤ (z +ℤ pos (2 ^ 60 + 2 ^ 34)) → z ≤ℤ pos (2 ^ 60 + 2 ^ 34) → IsLength by → pos 0 ≤ℤ used → used ≤ℤ pos (2 ^ 52)
+outward : (z by used w : ℤ) → pos 0 ≤ℤ (z +ℤ pos most_of_rows) → z ≤ℤ pos most_of_rows → IsLength by → pos 0 ≤ℤ used → used ≤ℤ pos (2 ^ 52)
     → IsLineWidth w → Outward (z +ℤ by +ℤ used) w
 outward z by used w low high long_by small large wide =
     let edge = upper_edge z by used low high long_by small large in
@@ -79,7 +79,7 @@ ring_fits ring core fits few place within =
     let v_high = taken_high place rule.width_v rule.spacing_v small fits.width_v.1 fits.spacing_v.1 fits.width_v.0.0 fits.spacing_v.0 in
     let h_low = taken_low place rule.width_h rule.spacing_h fits.width_h.0.0 fits.spacing_h.0 in
     let h_high = taken_high place rule.width_h rule.spacing_h small fits.width_h.1 fits.spacing_h.1 fits.width_h.0.0 fits.spacing_h.0 in
-    let most = 2 ^ 60 + 2 ^ 34 in
+    let most = most_of_rows in
     let left = inward core.x1 rule.left (taken place rule.width_v rule.spacing_v) rule.width_v (low_of most core.x1 near.x1) (high_of most core.x1 near.x1) fits.left v_low v_high fits.width_v in
     let lower = inward core.y1 rule.bottom (taken place rule.width_h rule.spacing_h) rule.width_h (low_of most core.y1 near.y1) (high_of most core.y1 near.y1) fits.bottom h_low h_high fits.width_h in
     let right = outward core.x2 rule.right (taken place rule.width_v rule.spacing_v) rule.width_v (low_of most core.x2 near.x2) (high_of most core.x2 near.x2) fits.right v_low v_high fits.width_v in

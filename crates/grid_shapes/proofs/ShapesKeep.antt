@@ -17,7 +17,7 @@ use Rattle.grid_plan.specs.declared.record.Plan.{Plan}
 use Rattle.grid_plan.specs.declared.record.Rails.{Rails}
 use Rattle.grid_plan.specs.declared.record.RingAt.{RingAt}
 use Rattle.grid_plan.specs.declared.record.Straps.{Straps}
-use Rattle.grid_plan.specs.Keeping.{PlanKeeps, StrapsKeep, RailsKeep, DomainKeeps, LiesNear, plan_regions}
+use Rattle.grid_plan.specs.Keeping.{PlanKeeps, StrapsKeep, RailsKeep, DomainKeeps, LiesNear, plan_regions, most_of_rows}
 use Rattle.grid_shapes.specs.Shapes.{AreShapes, AreOfEach, Draws, DrawStraps, DrawRails, DrawSides, IsCoreOf, most_lines}
 use Rattle.grid_shapes.specs.Site.{grid_of, rows_at, sides_at, strap_reaches, foreign}
 use Rattle.grid_shapes.specs.inside.Sites.{ShapeKeeps}
@@ -33,19 +33,19 @@ use Rattle.std.proofs.lemmas.List.{length-map}
 abbrev pub none : GridAt
 none = record { domain = 0; over_macros = true }
 
-pub rows_near : (tech : Tech) (plan : Plan) (grid : ℕ) → PlanKeeps tech plan → All (λ (row : RowBox). LiesNear (2 ^ 60 + 2 ^ 34) row.rect) (rows_at plan grid)
+pub rows_near : (tech : Tech) (plan : Plan) (grid : ℕ) → PlanKeeps tech plan → All (λ (row : RowBox). LiesNear most_of_rows row.rect) (rows_at plan grid)
 rows_near tech plan grid keeps =
     All-filter (λ (row : RowBox). owns_row (plan_regions plan) (get_or (plan_regions plan) (grid_of plan grid).domain None) row.rect)
-    (λ (row : RowBox). LiesNear (2 ^ 60 + 2 ^ 34) row.rect) plan.rows keeps.rows
+    (λ (row : RowBox). LiesNear most_of_rows row.rect) plan.rows keeps.rows
 
 pub some_rows : (tech : Tech) (plan : Plan) (grid : ℕ) → PlanKeeps tech plan → grid < length plan.grids → (grid_of plan grid).over_macros ≡ false
     → rows_at plan grid ≢ []
 some_rows tech plan grid keeps within drawn = (keeps.grids grid none within).rows drawn
 
 pub plan_core_near : (tech : Tech) (plan : Plan) (grid : ℕ) (core : Rect) → PlanKeeps tech plan → grid < length plan.grids
-    → (grid_of plan grid).over_macros ≡ false → IsCoreOf plan grid core → LiesNear (2 ^ 60 + 2 ^ 34) core
+    → (grid_of plan grid).over_macros ≡ false → IsCoreOf plan grid core → LiesNear most_of_rows core
 plan_core_near tech plan grid core keeps within drawn is =
-    core_near (2 ^ 60 + 2 ^ 34) (rows_at plan grid) core (some_rows tech plan grid keeps within drawn) (rows_near tech plan grid keeps) is
+    core_near most_of_rows (rows_at plan grid) core (some_rows tech plan grid keeps within drawn) (rows_near tech plan grid keeps) is
 
 -- The rings of a grid have few nets.
 abbrev pub FewRings : Plan → ℕ → Type 0

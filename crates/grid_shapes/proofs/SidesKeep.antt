@@ -15,7 +15,7 @@ use Rattle.lef_tech.specs.declared.tech.Tech.{Tech}
 use Rattle.ring_layout.specs.Rings.{rings_of, sides_of, outer_edges, vertical_side, horizontal_side}
 use Rattle.grid_plan.specs.declared.record.Plan.{Plan}
 use Rattle.grid_plan.specs.declared.record.RingAt.{RingAt}
-use Rattle.grid_plan.specs.Keeping.{PlanKeeps, RingKeeps, LiesNear}
+use Rattle.grid_plan.specs.Keeping.{PlanKeeps, RingKeeps, LiesNear, most_of_rows}
 use Rattle.grid_shapes.specs.Shapes.{most_lines}
 use Rattle.grid_shapes.specs.Site.{sides_at}
 use Rattle.grid_shapes.specs.inside.Sites.{RingFits, ShapeKeeps}
@@ -23,7 +23,7 @@ use Rattle.grid_shapes.proofs.Coordinates.{width_keeps}
 use Rattle.grid_shapes.proofs.Lists.{All-flat_map, all_four, numbers_below}
 use Rattle.grid_shapes.proofs.Rings.{ring_fits}
 
-pub fits_from : (tech : Tech) (plan : Plan) (core : Rect) (ring : RingAt) → RingKeeps tech plan ring → LiesNear (2 ^ 60 + 2 ^ 34) core → RingFits core ring
+pub fits_from : (tech : Tech) (plan : Plan) (core : Rect) (ring : RingAt) → RingKeeps tech plan ring → LiesNear most_of_rows core → RingFits core ring
 fits_from tech plan core ring keeps near = record {
   width_v = keeps.width_v;
   width_h = keeps.width_h;
@@ -57,7 +57,7 @@ side_keeps tech plan ring core keeps place within at =
     (record { keeps = (v, at 2 nothing (omega arith)); even = keeps.width_v.0; net = net; layer = keeps.vertical; axis = sym keeps.upright })
     (record { keeps = (h, at 3 nothing (omega arith)); even = keeps.width_h.0; net = net; layer = keeps.horizontal; axis = sym keeps.flat })
 
-pub ring_keeps : (tech : Tech) (plan : Plan) (ring : RingAt) (core : Rect) → RingKeeps tech plan ring → LiesNear (2 ^ 60 + 2 ^ 34) core
+pub ring_keeps : (tech : Tech) (plan : Plan) (ring : RingAt) (core : Rect) → RingKeeps tech plan ring → LiesNear most_of_rows core
     → 4 * length ring.rule.nets ≤ most_lines → All (ShapeKeeps tech plan) (rings_of ring.rule core)
 ring_keeps tech plan ring core keeps near few =
     let fit = ring_fits ring core (fits_from tech plan core ring keeps near) few in
@@ -70,7 +70,7 @@ record OfGrid (tech : Tech) (plan : Plan) (grid : ℕ) (ring : RingAt) : Type 0 
   pub keeps : RingKeeps tech plan ring
   pub is : Contains plan.rings ring
 
-pub sides_keep : (tech : Tech) (plan : Plan) (grid : ℕ) (core : Rect) → PlanKeeps tech plan → LiesNear (2 ^ 60 + 2 ^ 34) core
+pub sides_keep : (tech : Tech) (plan : Plan) (grid : ℕ) (core : Rect) → PlanKeeps tech plan → LiesNear most_of_rows core
     → ((ring : RingAt) → Contains plan.rings ring → ring.grid ≡ grid → 4 * length ring.rule.nets ≤ most_lines)
     → All (ShapeKeeps tech plan) (sides_at plan grid core)
 sides_keep tech plan grid core keeps near few =

@@ -3,7 +3,7 @@ ghost use Rattle.std.specs.Prelude.{◌≡◌, ◌+◌, ◌^◌, IfOk};
 ghost use Rattle.std.specs.Option.{unwrap_or};
 ghost use Rattle.geom_rect.specs.Drawn.{drawn_run};
 ghost use Rattle.grid_cores.specs.Line.{along};
-ghost use Rattle.grid_plan.specs.Keeping.{LiesNear};
+ghost use Rattle.grid_plan.specs.Keeping.{LiesNear, most_of_rows};
 ghost use Rattle.grid_shapes.specs.Site.{same_axis, is_side, ring_reach, stated_reach, strap_reaches};
 ghost use Rattle.grid_shapes.specs.inside.Sites.{IsSite, IsEvenWidth};
 
@@ -21,7 +21,7 @@ pub(crate) fn strap_reaches(
     straps: &Straps,
 ) -> Result<Vec<Run>, AllocError>
     requires site { IsSite plan.now straps.now.grid site.now }
-    requires near { LiesNear (2 ^ 60 + 2 ^ 34) site.now.core }
+    requires near { LiesNear most_of_rows site.now.core }
     requires widest { IsEvenWidth site.now.widest }
     ensures { IfOk result (λ reaches. reaches.items ≡ strap_reaches plan.now straps.now site.now.core) }
 {

@@ -1,4 +1,4 @@
-ghost use Rattle.std.specs.Prelude.{◌≡◌, ◌<◌, ◌≤◌, ◌^◌, IfOk, MatchOption, MatchResult, OnOk, length, map, [], ◌∷◌};
+ghost use Rattle.std.specs.Prelude.{◌≡◌, ◌<◌, ◌≤◌, ◌^◌, IfOk, MatchOption, MatchResult, OnErr, OnOk, length, map, [], ◌∷◌};
 ghost use Rattle.via_arrays.specs.Lengths.{IsUnits, in_units};
 ghost use Rattle.bias_file.specs.Limits.{BiasKeeps};
 ghost use Rattle.lef_cells.specs.Limits.{CellsKeep, MacroKeeps};
@@ -136,7 +136,7 @@ fn tap_all<'a>(
 /// Adds the taps of a component on the rails of a grid, and tells whether it has those that it needs: one that draws a
 /// current and has no place, no macro, no owner or no rail has not.
 ///
-/// Error: want of memory.
+/// Error: want of memory, which leaves the taps as they were.
 pub fn add_taps<'a>(
     grid: &Grid,
     cells: &Cells,
@@ -151,6 +151,7 @@ pub fn add_taps<'a>(
     requires component { ComponentKeeps component.now }
     requires tables { AreTablesOf grid.now cells.now bias.now tables.old }
     ensures taps { IfOk result (AddsTaps grid.now cells.now bias.now component.now taps.old.items taps.new.items) }
+    ensures left { OnErr result (taps.new.items ≡ taps.old.items) }
     ensures same { OnOk result (tables.new ≡ tables.old) }
 {
     let range = range_in(tables, bias, component);
@@ -159,8 +160,7 @@ pub fn add_taps<'a>(
     }
     match pair_of(grid, cells, tables, component, range) {
         Some(pair) => {
-            taps.push(pair.power)?;
-            taps.push(pair.ground)?;
+            taps.extend_from_slice(&[pair.power, pair.ground])?;
             Ok(true)
         }
         None => Ok(false),

@@ -1,5 +1,4 @@
 -- The names that the tables have.
-use Rattle.std.specs.Prelude.{ℕ, List}
 use Rattle.grid_plan.specs.declared.tables.Tables.{Tables}
 use Rattle.grid_plan.specs.Names.{Names}
 

@@ -6,7 +6,7 @@ use Rattle.geom_rect.specs.declared.drawn.Drawn.{Drawn}
 use Rattle.grid_pieces.specs.Limits.{DrawnKeeps}
 use Rattle.via_arrays.specs.Choice.{direction}
 use Rattle.lef_tech.specs.declared.tech.Tech.{Tech}
-use Rattle.grid_plan.specs.Keeping.{IsLength, IsLineWidth, LiesNear, PlanKeeps}
+use Rattle.grid_plan.specs.Keeping.{IsLength, IsLineWidth, LiesNear, PlanKeeps, most_of_rows}
 use Rattle.grid_plan.specs.declared.record.Plan.{Plan}
 use Rattle.grid_plan.specs.declared.record.RingAt.{RingAt}
 use Rattle.grid_shapes.specs.declared.site.Site.{Site}
@@ -44,7 +44,7 @@ pub record RingFits (core : Rect) (ring : RingAt) : Type 0 where
   pub bottom : IsLength ring.rule.bottom
   pub right : IsLength ring.rule.right
   pub top : IsLength ring.rule.top
-  pub near : LiesNear (2 ^ 60 + 2 ^ 34) core
+  pub near : LiesNear most_of_rows core
 
 -- A ring of the grid has more lines than may be.
 pub record RingsAreMany (grid : ℕ) (rings : List RingAt) : Type 0 where

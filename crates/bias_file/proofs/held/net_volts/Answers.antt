@@ -14,8 +14,13 @@ returns c =
     let first = get_or xs 0 no_word in
     let value = get_or xs 2 no_word in
     let begun : the c.args.word (sort_of (token first)) ≡ true = sym c.begins.ensures ∙ c.if-not-begins.false in
-    let is = subst (λ z. IsNumberAt c.args.place value.text.now z) c.in-Ok.is c.number_at.ensures.answer in
-    let kept = number_kept c.args.place value.text.now c.in-Ok.volts c.requires.can_read.limit is in
-    let found : NetVolts = record { line = first.place.line; net = (get_or xs 1 no_word).text; volts = to_z w128 (of_z w128 c.in-Ok.volts) } in
-    subst (λ z. FindsVolts c.args.word c.args.place (map token z) (Some found)) (sym (four_words xs c.in-len4.len_at_least c.in-len4.len_below))
-    (has_both _ _ c.requires.value begun, (refl, refl, subst (λ z. IsNumberAt c.args.place value.text.now (Ok z)) (sym kept) is))
+    let found : NetVolts = record { line = first.place.line; net = (get_or xs 1 no_word).text; volts = to_z w128 (of_z w128 c.value_of.result) } in
+    subst (λ z. FindsVolts c.args.word c.args.place (map token z) (Some found)) (sym (four_words xs c.in-len4.len_at_least c.in-len4.len_below)) (
+      has_both _ _ c.requires.value begun,
+      (
+        refl,
+        refl,
+        λ none. let is = c.value_of.ensures none in
+            subst (λ z. IsNumberAt c.args.place value.text.now (Ok z)) (sym (number_kept c.args.place value.text.now c.value_of.result c.requires.can_read.limit is)) is,
+      ),
+    )

@@ -1,13 +1,11 @@
-use Rattle.std.proofs.Common.{map, arith}
-use Rattle.bias_file.specs.Record.{SaysAmps}
-use Rattle.bias_file.proofs.Taking.{line_kept, no_current}
+use Rattle.std.proofs.Common.{map, subst}
+use Rattle.bias_file.specs.inside.Held.{FindsAmps}
+use Rattle.bias_file.proofs.Taking.{amps_taken}
 use Rattle.reading.specs.Word.{token}
-use Rattle.std.proofs.lemmas.List.{length-map}
 use Rattle.bias_file.proofs.held.take_amps.Goals as goal
 
-pub returns-in_default : goal.returns-in_default
-returns-in_default c =
-    let other = c.in_default in
-    let count = length-map c.args.unit.now token in
-    line_kept SaysAmps c.args.word c.args.currents.now (map token c.args.unit.now)
-    (no_current c.args.word c.requires (map token c.args.unit.now) (λ e. omega (arith, other)) (λ e. omega (arith, other)))
+pub returns : goal.returns
+returns c =
+    let unit = map token c.args.unit.now in
+    amps_taken c.args.word c.args.currents.now c.add.new.self unit c.in-Some.field-0 _ c.add.result c.requires
+    (subst (λ z. FindsAmps c.args.word unit z) c.in-Some.is c.name_amps.ensures) c.in_ok-new.ensures c.add.ensures.names c.add.ensures.entries

@@ -11,5 +11,5 @@ pub returns : goal.returns
 returns c =
     let unit = map token c.args.unit.now in
     volts_taken SaysSupply (λ line net v. record { line = line; net = net; volts = v }) Supply volts c.args.supplies.now c.add.new.self unit c.in-Some.field-0 _ c.add.result
-    (omega arith) refl (subst (λ z. FindsVolts Supply volts unit z) c.in-Some.is c.in_ok-line.ensures) (λ first net value stop v is. (v, is, refl))
+    (omega arith) refl (λ text kind fault. fault) (subst (λ z. FindsVolts Supply volts unit z) c.in-Some.is c.net_volts.ensures) (λ first net value stop v is. (v, is, refl))
     c.in_ok-new.ensures c.add.ensures.names c.add.ensures.entries

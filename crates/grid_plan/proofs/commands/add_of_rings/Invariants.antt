@@ -1,5 +1,4 @@
 use Rattle.std.proofs.Common.{◌≡◌, ◌++◌, take}
-use Rattle.grid_plan.specs.Order.{placed}
 use Rattle.grid_plan.specs.Planning.{added_in}
 use Rattle.grid_plan.specs.inside.Tables.{names_in}
 use Rattle.grid_plan.proofs.commands.add_of_rings.Given as goal

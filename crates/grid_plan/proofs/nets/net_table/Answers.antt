@@ -1,4 +1,4 @@
-use Rattle.std.proofs.Common.{List, subst, sym}
+use Rattle.std.proofs.Common.{List, subst}
 use Rattle.std.proofs.lemmas.List.{take_all}
 use Rattle.pdn_script.specs.declared.record.Domain.{Domain}
 use Rattle.grid_plan.specs.Names.{HaveNets}

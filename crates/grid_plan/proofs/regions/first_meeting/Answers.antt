@@ -1,4 +1,4 @@
-use Rattle.std.proofs.Common.{◌≡◌, None, get_or, sym, ap, ◌∙◌}
+use Rattle.std.proofs.Common.{None, get_or, sym, ap, ◌∙◌}
 use Rattle.std.specs.List.{position}
 use Rattle.grid_plan.specs.Regions.{regions_meet}
 use Rattle.grid_plan.proofs.Stepped.{meeting_step, meeting_found}

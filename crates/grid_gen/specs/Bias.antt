@@ -3,7 +3,7 @@
 use Rattle.std.specs.Prelude.{ℕ, ◌+◌, ◌-◌, ◌*◌, ◌/◌, ◌%◌, List, ◌++◌, codes}
 use Rattle.std.specs.List.{flat_map, range_with_len}
 use Rattle.grid_gen.specs.Part.{part}
-use Rattle.grid_gen.specs.declared.fixed.TheConstants.{SUPPLIES}
+use Rattle.grid_gen.specs.Fixed.{supply_lines}
 
 -- A text, and a length of so many tenths of a micrometre, with one place.
 abbrev pub tenths : List ℕ → ℕ → List ℕ
@@ -29,4 +29,4 @@ pad_lines net first side =
 
 -- The text of the bias file. The straps of ground come first, and those of power lie between them.
 abbrev pub bias_text : ℕ → List ℕ
-bias_text side = SUPPLIES.now ++ pad_lines (codes "VSS") 20 side ++ pad_lines (codes "VDD") 220 side
+bias_text side = supply_lines ++ pad_lines (codes "VSS") 20 side ++ pad_lines (codes "VDD") 220 side

@@ -3,13 +3,16 @@
 use Rattle.std.specs.Prelude.{ℕ, ◌+◌, ◌*◌, ◌/◌, ◌%◌, ◌^◌, suc, zero, List, ◌++◌, codes, if◌then◌else◌}
 use Rattle.std.specs.Bool.{nat_eq}
 use Rattle.std.specs.List.{flat_map, range_with_len}
-use Rattle.grid_gen.specs.declared.fixed.TheConstants.{UNITS, END}
+use Rattle.grid_gen.specs.Fixed.{units_lines, end_lines}
 use Rattle.grid_gen.specs.Part.{part}
+
+-- The die: as wide and as high as its cells.
+abbrev pub area_line : ℕ → List ℕ
+area_line side = part (codes "DIEAREA ( 0 0 ) ( ") (2800 * side) ++ part (codes " ") (2800 * side) ++ codes " ) ;\n"
 
 -- What stands before the rows.
 abbrev pub head_of : ℕ → List ℕ
-head_of side =
-    UNITS.now ++ part (codes "DIEAREA ( 0 0 ) ( ") (2800 * side) ++ part (codes " ") (2800 * side) ++ codes " ) ;\n"
+head_of side = units_lines ++ area_line side
 
 -- Rows stand upright and flipped in turn.
 abbrev pub orient_of : ℕ → List ℕ
@@ -56,4 +59,4 @@ components_head side = part (codes "COMPONENTS ") (side * side) ++ codes " ;\n"
 abbrev pub design_text : ℕ → ℕ → List ℕ
 design_text number side =
     head_of side ++ flat_map (row_line side) (range_with_len 0 side) ++ components_head side
-    ++ flat_map (component_line number side) (range_with_len 0 (side * side)) ++ END.now
+    ++ flat_map (component_line number side) (range_with_len 0 (side * side)) ++ end_lines

@@ -1,3 +1,4 @@
+pub mod Fixed
 pub mod Part
 pub mod Inputs
 pub mod Design

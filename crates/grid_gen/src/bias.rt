@@ -9,6 +9,7 @@ use crate::part::{append_part, append_text};
 use std::alloc::{AllocError, Global};
 
 /// The text of the bias file.
+#[tactic(auto, using(crate::proofs::Literals::supplies_is))]
 pub(crate) fn bias_text(alloc: Global, side: u32) -> Result<Vec<u8>, AllocError>
     requires { IsSide side }
     ensures { IfOk result (λ text. text.items ≡ bias_text side) }

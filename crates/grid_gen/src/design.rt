@@ -2,13 +2,14 @@
 ghost use Rattle.std.specs.Prelude.{◌≡◌, ◌*◌, ◌<◌, ◌≤◌, ◌++◌, IfOk, OnOk};
 ghost use Rattle.std.specs.List.{flat_map, range_with_len};
 ghost use Rattle.grid_gen.specs.Inputs.{IsSide};
-ghost use Rattle.grid_gen.specs.Design.{design_text, head_of, orient_of, row_line, components_head, name_part, corner_part, component_entry, component_line, next_state, cell_of};
+ghost use Rattle.grid_gen.specs.Design.{design_text, area_line, head_of, orient_of, row_line, components_head, name_part, corner_part, component_entry, component_line, next_state, cell_of};
 
 use crate::fixed::{END, UNITS};
 use crate::part::{append_part, append_text};
 use std::alloc::{AllocError, Global};
 
 /// The text of the design.
+#[tactic(auto, using(crate::proofs::Literals::end_is))]
 pub(crate) fn design_text(alloc: Global, number: u64, side: u32) -> Result<Vec<u8>, AllocError>
     requires { IsSide side }
     ensures { IfOk result (λ text. text.items ≡ design_text number side) }
@@ -28,6 +29,15 @@ fn append_head(out: &mut Vec<u8>, side: u32) -> Result<(), AllocError>
     ensures { OnOk result (out.new.items ≡ out.old.items ++ head_of side) }
 {
     append_text(out, UNITS)?;
+    append_area(out, side)?;
+    Ok(())
+}
+
+// The die.
+fn append_area(out: &mut Vec<u8>, side: u32) -> Result<(), AllocError>
+    requires { IsSide side }
+    ensures { OnOk result (out.new.items ≡ out.old.items ++ area_line side) }
+{
     append_part(out, b"DIEAREA ( 0 0 ) ( ", 2800 * side)?;
     append_part(out, b" ", 2800 * side)?;
     append_text(out, b" ) ;\n")?;

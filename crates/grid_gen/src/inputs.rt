@@ -26,6 +26,7 @@ pub struct Inputs {
 /// The texts of the design with this number and this side, from 24 to 300: so many rows of so many cells.
 ///
 /// Error: want of memory.
+#[tactic(auto, using(crate::proofs::Literals::technology_is, crate::proofs::Literals::cells_is, crate::proofs::Literals::script_is))]
 pub fn generate(alloc: Global, number: u64, side: u32) -> Result<Inputs, AllocError>
     requires { IsSide side }
     ensures { IfOk result (AreInputs number side) }

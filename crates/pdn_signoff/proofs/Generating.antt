@@ -6,7 +6,7 @@ use Rattle.answers.specs.declared.answer.Answer.{Answer}
 use Rattle.answers.specs.declared.answer.Answer.TheVariants.{Usage, Want, ReadFault, WriteFault, TooLong, Refused, NoGrid, Range, TooManySteps, PadConflict, FloatingCapacitor, Unsupplied, Built, SignedOff, Generated, Solved, Stepped, Certified, NotCertified}
 use Rattle.answers.specs.Answer.{status_of}
 use Rattle.grid_gen.specs.declared.inputs.Inputs.{Inputs}
-use Rattle.grid_gen.specs.declared.fixed.TheConstants.{TECHNOLOGY, CELLS, SCRIPT}
+use Rattle.grid_gen.specs.Fixed.{technology_text, cells_text, script_text}
 use Rattle.grid_gen.specs.Design.{design_text}
 use Rattle.grid_gen.specs.Inputs.{AreInputs}
 use Rattle.output_files.specs.Outputs.{Texts, names, text_at}
@@ -24,10 +24,10 @@ pub texts_are : (number side : ℕ) (files : DesignFiles) (inputs : Inputs) → 
 unfolding design_texts
 texts_are number side files inputs are =
     ap (λ (t : List ℕ). (files.lef, t) ∷ (files.cells, inputs.cells) ∷ (files.def, inputs.def) ∷ (files.pdn, inputs.pdn) ∷ (files.bias, inputs.bias) ∷ []) are.lef
-    ∙ ap (λ (t : List ℕ). (files.lef, TECHNOLOGY.now) ∷ (files.cells, t) ∷ (files.def, inputs.def) ∷ (files.pdn, inputs.pdn) ∷ (files.bias, inputs.bias) ∷ []) are.cells
-    ∙ ap (λ (t : List ℕ). (files.lef, TECHNOLOGY.now) ∷ (files.cells, CELLS.now) ∷ (files.def, t) ∷ (files.pdn, inputs.pdn) ∷ (files.bias, inputs.bias) ∷ []) are.def
-    ∙ ap (λ (t : List ℕ). (files.lef, TECHNOLOGY.now) ∷ (files.cells, CELLS.now) ∷ (files.def, design_text number side) ∷ (files.pdn, t) ∷ (files.bias, inputs.bias) ∷ []) are.pdn
-    ∙ ap (λ (t : List ℕ). (files.lef, TECHNOLOGY.now) ∷ (files.cells, CELLS.now) ∷ (files.def, design_text number side) ∷ (files.pdn, SCRIPT.now) ∷ (files.bias, t) ∷ []) are.bias
+    ∙ ap (λ (t : List ℕ). (files.lef, technology_text) ∷ (files.cells, t) ∷ (files.def, inputs.def) ∷ (files.pdn, inputs.pdn) ∷ (files.bias, inputs.bias) ∷ []) are.cells
+    ∙ ap (λ (t : List ℕ). (files.lef, technology_text) ∷ (files.cells, cells_text) ∷ (files.def, t) ∷ (files.pdn, inputs.pdn) ∷ (files.bias, inputs.bias) ∷ []) are.def
+    ∙ ap (λ (t : List ℕ). (files.lef, technology_text) ∷ (files.cells, cells_text) ∷ (files.def, design_text number side) ∷ (files.pdn, t) ∷ (files.bias, inputs.bias) ∷ []) are.pdn
+    ∙ ap (λ (t : List ℕ). (files.lef, technology_text) ∷ (files.cells, cells_text) ∷ (files.def, design_text number side) ∷ (files.pdn, script_text) ∷ (files.bias, t) ∷ []) are.bias
 
 -- Their names are those of the files.
 names_are : (number side : ℕ) (files : DesignFiles) → names (design_texts number side files) ≡ file_names files

@@ -2,7 +2,7 @@
 use Rattle.std.specs.Prelude.{◌⊎◌, ℕ, List, [], ◌∷◌}
 use Rattle.answers.specs.declared.answer.Answer.{Answer}
 use Rattle.answers.specs.declared.answer.Answer.TheVariants.{Usage, Want, ReadFault, WriteFault, TooLong, Refused, NoGrid, Range, TooManySteps, PadConflict, FloatingCapacitor, Unsupplied, Built, SignedOff, Generated, Solved, Stepped, Certified, NotCertified}
-use Rattle.grid_gen.specs.declared.fixed.TheConstants.{TECHNOLOGY, CELLS, SCRIPT}
+use Rattle.grid_gen.specs.Fixed.{technology_text, cells_text, script_text}
 use Rattle.grid_gen.specs.Bias.{bias_text}
 use Rattle.grid_gen.specs.Design.{design_text}
 use Rattle.output_files.specs.Outputs.{Texts}
@@ -19,8 +19,8 @@ file_names files = files.lef ∷ files.cells ∷ files.def ∷ files.pdn ∷ fil
 -- the script and the bias file.
 unfoldable pub design_texts : (number side : ℕ) → DesignFiles → Texts
 design_texts number side files =
-    (files.lef, TECHNOLOGY.now) ∷ (files.cells, CELLS.now) ∷ (files.def, design_text number side)
-    ∷ (files.pdn, SCRIPT.now) ∷ (files.bias, bias_text side) ∷ []
+    (files.lef, technology_text) ∷ (files.cells, cells_text) ∷ (files.def, design_text number side)
+    ∷ (files.pdn, script_text) ∷ (files.bias, bias_text side) ∷ []
 
 -- Why `generate` of a number and a side gives an answer: each answer with what has to be so, and with what the files hold
 -- then. The texts are made, and then the five files are written; memory may run out before the first is written, at one

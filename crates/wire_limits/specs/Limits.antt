@@ -9,7 +9,6 @@ use Rattle.wire_names.specs.declared.record.NamedWires.{NamedWires}
 use Rattle.wire_limits.specs.declared.error.LimitError.{LimitError}
 use Rattle.wire_limits.specs.declared.error.LimitError.TheVariants.{ViaLayers, ViaSize, OddWidth, NoSheet, NoResistance, TooMany, Want}
 use Rattle.wire_limits.specs.declared.error.WireCount.TheVariants.{Segments, Vias}
-use Rattle.wire_limits.specs.declared.within.TheConstants.{MOST_SEGMENTS, MOST_VIAS}
 use Rattle.wire_limits.specs.First.{IsFirstWithout, EachHas}
 use Rattle.wire_limits.specs.Segments.{AreEven, HasSheet, IsFirstOdd}
 use Rattle.wire_limits.specs.Vias.{HasItsLayers, HasSize, HasCutResistance, IsFirstUsedWithout, EachUsedHas}
@@ -31,6 +30,13 @@ SheetsStand tech named = EachHas (HasSheet tech) named.shapes
 abbrev pub CutsStand : Tech → NamedWires → Type 0
 CutsStand tech named = EachUsedHas (HasCutResistance tech) named.vias named.spots
 
+-- At most a million segments, and at most a million vias (this project).
+abbrev pub most_segments : ℕ
+most_segments = 1000000
+
+abbrev pub most_vias : ℕ
+most_vias = 1000000
+
 -- Nothing refuses it.
 pub record AreWithin (tech : Tech) (wires : Wires) (named : NamedWires) : Type 0 where
   pub layers : LayersFit tech named
@@ -38,8 +44,8 @@ pub record AreWithin (tech : Tech) (wires : Wires) (named : NamedWires) : Type 0
   pub widths : WidthsFit wires
   pub sheets : SheetsStand tech named
   pub cuts : CutsStand tech named
-  pub segments : length named.shapes ≤ MOST_SEGMENTS
-  pub vias : length named.spots ≤ MOST_VIAS
+  pub segments : length named.shapes ≤ most_segments
+  pub vias : length named.spots ≤ most_vias
 
 -- The layer of the first segment without a resistance of a square.
 pub record IsFirstBare (tech : Tech) (named : NamedWires) (layer : ℕ) : Type 0 where
@@ -72,8 +78,8 @@ AreRefused tech wires named (NoSheet layer) = LayersFit tech named × SizesFit n
 AreRefused tech wires named (NoResistance layer) = LayersFit tech named × SizesFit named × WidthsFit wires
     × SheetsStand tech named × IsFirstWithoutCut tech named layer
 AreRefused tech wires named (TooMany Segments) = LayersFit tech named × SizesFit named × WidthsFit wires
-    × SheetsStand tech named × CutsStand tech named × (MOST_SEGMENTS < length named.shapes)
+    × SheetsStand tech named × CutsStand tech named × (most_segments < length named.shapes)
 AreRefused tech wires named (TooMany Vias) = LayersFit tech named × SizesFit named × WidthsFit wires
-    × SheetsStand tech named × CutsStand tech named × (length named.shapes ≤ MOST_SEGMENTS)
-    × (MOST_VIAS < length named.spots)
+    × SheetsStand tech named × CutsStand tech named × (length named.shapes ≤ most_segments)
+    × (most_vias < length named.spots)
 AreRefused tech wires named Want = Unit {0}

@@ -1,12 +1,11 @@
 -- Vias that stand somewhere (LEF/DEF 5.8 Language Reference, VIAS: VIARULE, LAYERS, CUTSIZE, CUTSPACING, ROWCOL).
-use Rattle.std.specs.Prelude.{◌≡◌, ℕ, ◌+◌, ◌<◌, pos, ◌*ℤ◌, ◌≤ℤ◌, List, Contains, map, Option, Some, slice_get}
+use Rattle.std.specs.Prelude.{◌≡◌, ℕ, ◌+◌, ◌<◌, ◌^◌, ℤ, pos, ◌*ℤ◌, ◌≤ℤ◌, List, Contains, map, Option, Some, slice_get}
 use Rattle.lef_tech.specs.declared.rule.ViaRule.{ViaRule}
 use Rattle.lef_tech.specs.declared.tech.Tech.{Tech}
 use Rattle.via_arrays.specs.Choice.{IsRule}
 use Rattle.via_arrays.specs.Resistances.{per_cut_of}
 use Rattle.wire_names.specs.declared.record.NamedVia.{NamedVia}
 use Rattle.wire_names.specs.declared.record.Spot.{Spot}
-use Rattle.wire_limits.specs.declared.within.TheConstants.{MOST_SIZE}
 
 -- The via at this place of the list stands somewhere.
 abbrev pub IsUsed : List Spot → ℕ → Type 0
@@ -25,10 +24,14 @@ pub record HasItsLayers (tech : Tech) (via : NamedVia) : Type 0 where
   pub is_rule : IsRule tech via.rule rule
   pub has : HasLayersOf rule via
 
+-- 2^32 units.
+abbrev pub most_size : ℤ
+most_size = pos (2 ^ 32)
+
 -- Its columns times the pitch in x and its rows times the pitch in y do not pass 2^32 units.
 pub record HasSize (via : NamedVia) : Type 0 where
-  pub columns : (pos via.columns *ℤ via.pitch_x) ≤ℤ MOST_SIZE
-  pub rows : (pos via.rows *ℤ via.pitch_y) ≤ℤ MOST_SIZE
+  pub columns : (pos via.columns *ℤ via.pitch_x) ≤ℤ most_size
+  pub rows : (pos via.rows *ℤ via.pitch_y) ≤ℤ most_size
 
 -- What is stated for a cut of the rule of this number: by the rule, or else by the rule's cut layer.
 pub record IsPerCut (tech : Tech) (place : ℕ) (stated : Option ℕ) : Type 0 where

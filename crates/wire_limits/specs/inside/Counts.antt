@@ -7,8 +7,7 @@ use Rattle.wire_names.specs.declared.record.NamedWires.{NamedWires}
 use Rattle.wire_limits.specs.declared.error.LimitError.{LimitError}
 use Rattle.wire_limits.specs.declared.error.LimitError.TheVariants.{ViaLayers, ViaSize, OddWidth, NoSheet, NoResistance, TooMany, Want}
 use Rattle.wire_limits.specs.declared.error.WireCount.TheVariants.{Segments, Vias}
-use Rattle.wire_limits.specs.declared.within.TheConstants.{MOST_SEGMENTS, MOST_VIAS}
-use Rattle.wire_limits.specs.Limits.{HasOddWidth, IsFirstBare, IsFirstWithoutCut}
+use Rattle.wire_limits.specs.Limits.{HasOddWidth, IsFirstBare, IsFirstWithoutCut, most_segments, most_vias}
 use Rattle.wire_limits.specs.Vias.{HasItsLayers, HasSize, IsFirstUsedWithout}
 
 abbrev pub HaveOtherLayers : Tech → NamedWires → LimitError → Type 0
@@ -36,6 +35,6 @@ AreWithoutCuts tech named (NoResistance layer) = IsFirstWithoutCut tech named la
 AreWithoutCuts tech named _ = ⊥
 
 abbrev pub AreMany : ℕ → ℕ → LimitError → Type 0
-AreMany segments vias (TooMany Segments) = MOST_SEGMENTS < segments
-AreMany segments vias (TooMany Vias) = (segments ≤ MOST_SEGMENTS) × (MOST_VIAS < vias)
+AreMany segments vias (TooMany Segments) = most_segments < segments
+AreMany segments vias (TooMany Vias) = (segments ≤ most_segments) × (most_vias < vias)
 AreMany segments vias _ = ⊥

@@ -1,4 +1,4 @@
-use Rattle.std.proofs.Common.{◌≡◌, ℕ, ◌+◌, ◌/◌, ◌%◌, ◌++◌, ap, sym, ◌∙◌, rules}
+use Rattle.std.proofs.Common.{◌≡◌, ◌+◌, ◌/◌, ◌%◌, ◌++◌, ap, sym, ◌∙◌, rules}
 use Rattle.grid_gen.specs.Design.{component_line, component_entry, next_state, cell_of, state_after}
 use Rattle.grid_gen.proofs.Ranges.{grown_by_line, state_first, state_more}
 use Rattle.grid_gen.proofs.design.append_components.Goals as goal

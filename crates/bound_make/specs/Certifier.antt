@@ -1,10 +1,14 @@
 -- What is made of a solver's proposal.
-use Rattle.std.specs.Prelude.{◌≡◌, ⊤, ℕ, ◌<◌, ◌*◌, ℤ, pos, ◌+ℤ◌, ◌-ℤ◌, ◌≤ℤ◌, List, Option, Some, None, length, map}
+use Rattle.std.specs.Prelude.{◌≡◌, ⊤, ℕ, ◌<◌, ◌+◌, ◌*◌, ℤ, pos, ◌+ℤ◌, ◌-ℤ◌, ◌≤ℤ◌, List, Option, Some, None, length, map}
 use Rattle.std.specs.List.{range_with_len}
 use Rattle.std.specs.Int.{int_min, int_max}
 use Rattle.grid_net.specs.Network.{Network, entry_of, pad_at}
 use Rattle.grid_net.specs.Certificate.{IsHighHalf, IsLowHalf, IsCertificate, IsTight}
 use Rattle.bound_make.specs.Scale.{Scale, scale_width}
+
+-- How many cells the region has in which the lists of a network are made: 16 for each node, 8 for each resistor, and 64.
+abbrev pub region_cells : ℕ → ℕ → ℕ
+region_cells nodes resistors = 16 * nodes + 8 * resistors + 64
 
 -- The entry of a start: the pad's voltage at a pad, and else the proposal, brought to the nearest number that is at
 -- most the width beyond the pads.

@@ -5,7 +5,7 @@ ghost use Rattle.grid_net.specs.Limits.{IsBuilt};
 ghost use Rattle.grid_net.specs.Certificate.{IsCertificate, IsTight};
 ghost use Rattle.grid_net.specs.Level.{IsLevel, IsSupplied};
 ghost use Rattle.bound_make.specs.Scale.{Scale as Range, IsScaleOf, IsGreatestLevel};
-ghost use Rattle.bound_make.specs.Certifier.{LieInRange, MadeOfTold};
+ghost use Rattle.bound_make.specs.Certifier.{LieInRange, MadeOfTold, region_cells};
 
 use crate::half::Half;
 use crate::make::make;
@@ -37,13 +37,15 @@ impl Model for Certifier {
     ghost use Rattle.std.specs.Prelude.{◌≡◌, length};
     ghost use Rattle.grid_net.specs.Network.{Network};
     ghost use Rattle.bound_make.specs.Scale.{IsGreatestLevel};
+    ghost use Rattle.bound_make.specs.Certifier.{region_cells};
 
     ghost Value = { Network };
 
     ghost view = { λ c. c.net };
 
     ghost invariant = { λ c. (length c.memory.high.items ≡ c.net.nodes) × (length c.memory.low.items ≡ c.net.nodes)
-        × IsGreatestLevel c.net c.memory.level };
+        × IsGreatestLevel c.net c.memory.level
+        × (length c.memory.work.cells ≡ region_cells c.net.nodes (length c.net.resistors)) };
 }
 
 /// The level of a node, where each node is supplied.
@@ -68,18 +70,28 @@ pub(crate) fn greatest_level(net: &Net) -> u32
     greatest
 }
 
+/// The region in which the lists of networks of at most so many nodes and resistors are made. Errors: want of memory.
+pub fn region_for(alloc: Global, nodes: u32, resistors: usize) -> Result<Region, AllocError>
+    requires { resistors < 2 ^ 60 }
+    ensures { IfOk result (λ region. length region.cells ≡ region_cells nodes resistors) }
+{
+    let region = Region::new(alloc, 16 * nodes as usize + 8 * resistors + 64)?;
+    Ok(region)
+}
+
 /// The memory that a certificate of a network takes.
 pub(crate) fn memory_for(alloc: Global, net: &Net) -> Result<Memory, AllocError>
     requires { (i : ℕ) → i < net.now.nodes → IsSupplied net.now i }
     ensures high { IfOk result (λ m. length m.high.items ≡ net.now.nodes) }
     ensures low { IfOk result (λ m. length m.low.items ≡ net.now.nodes) }
     ensures level { IfOk result (λ m. IsGreatestLevel net.now m.level) }
+    ensures cells { IfOk result (λ m. length m.work.cells ≡ region_cells net.now.nodes (length net.now.resistors)) }
 {
-    let nodes = net.nodes() as usize;
+    let nodes = net.nodes();
     let level = greatest_level(net);
-    let high = vec![in alloc; 0; nodes]?;
-    let low = vec![in alloc; 0; nodes]?;
-    let work = Region::new(alloc, 16 * nodes + 8 * net.resistors().len() + 64)?;
+    let high = vec![in alloc; 0; nodes as usize]?;
+    let low = vec![in alloc; 0; nodes as usize]?;
+    let work = region_for(alloc, nodes, net.resistors().len())?;
     Ok(Memory {
         level,
         high,
@@ -92,7 +104,8 @@ pub(crate) fn memory_for(alloc: Global, net: &Net) -> Result<Memory, AllocError>
 /// has too few.
 pub(crate) fn list_span(work: &mut Region, nodes: usize) -> Span
     requires { 2 * nodes < 2 ^ 64 }
-    ensures { IsWithin result work.new }
+    ensures within { IsWithin result work.new }
+    ensures cells { work.new.cells ≡ work.old.cells }
 {
     work.reset();
     work.cut(2 * nodes).unwrap_or(Span { start: 0, len: 0 })

@@ -15,5 +15,5 @@ mod step;
 mod two_nets;
 mod work_list;
 
-pub use certifier::Certifier;
+pub use certifier::{Certifier, region_for};
 pub use two_nets::certify_halves;

@@ -77,7 +77,7 @@ pub(crate) fn make(net: &Net, half: Half, scale: Scale, x: &mut [i128], list: &m
 {
     make_start(net, half, scale, x);
     let rises = raise_until_full(net, half, x, list);
-    let falls = lower_until_trim(net, half, x, list);
+    let falls = lower_until_trim(net, half, x, rises.1, list);
     turn_back(half, x);
-    rises.saturating_add(falls)
+    rises.0.saturating_add(falls)
 }

@@ -117,28 +117,86 @@ fn lower_listed(net: &Net, half: Half, x: &mut [i128], list: &mut WorkList)
     }
 }
 
-/// Raises nodes until each sum is at least 1, and counts the sweeps in which one rose.
-pub(crate) fn raise_until_full(net: &Net, half: Half, x: &mut [i128], list: &mut WorkList) -> u64
+/// Whether a node is a pad, or its sum is at least 1 and does not pass it by too much.
+fn stands_at(net: &Net, half: Half, x: &[i128], node: u32) -> bool
+    requires built { IsBuilt net.now }
+    requires node_in { node < net.now.nodes }
+    requires raisable { IsRaisable (seen half net.now) x.now }
+    ensures full { result ≡ true → IsFull (seen half net.now) x.now node }
+    ensures trim { result ≡ true → IsTrim (seen half net.now) x.now node }
+{
+    if net.pad(node).is_some() {
+        return true;
+    }
+    let spare = node_sum(net, half, x, node) - 1;
+    let most = MOST_EXCESS * (net.around(node).len() as i128 + 1);
+    if spare < 0 {
+        return false;
+    }
+    if most < spare {
+        return false;
+    }
+    true
+}
+
+/// Whether no node is to be moved, either way. It looks no further than the first one that is.
+fn stands(net: &Net, half: Half, x: &[i128]) -> bool
+    requires built { IsBuilt net.now }
+    requires raisable { IsRaisable (seen half net.now) x.now }
+    ensures full { result ≡ true → (i : ℕ) → i < net.now.nodes → IsFull (seen half net.now) x.now i }
+    ensures trim { result ≡ true → (i : ℕ) → i < net.now.nodes → IsTrim (seen half net.now) x.now i }
+{
+    for node in 0..net.nodes() {
+        if !stands_at(net, half, x, node) {
+            return false;
+        }
+    }
+    true
+}
+
+/// Raises nodes until each sum is at least 1, and counts the sweeps in which one rose. Tells besides whether it is known
+/// that no sum passes 1 by too much.
+pub(crate) fn raise_until_full(
+    net: &Net,
+    half: Half,
+    x: &mut [i128],
+    list: &mut WorkList,
+) -> (u64, bool)
     requires built { IsBuilt net.now }
     requires raisable { IsRaisable (seen half net.now) x.old }
     ensures kept { IsRaising (seen half net.now) x.old x.new }
     ensures full { (i : ℕ) → i < net.now.nodes → IsFull (seen half net.now) x.new i }
+    ensures trim { result.1 ≡ true → (i : ℕ) → i < net.now.nodes → IsTrim (seen half net.now) x.new i }
 {
+    if stands(net, half, x) {
+        return (0, true);
+    }
     let mut sweeps: u64 = 0;
     while raise_all(net, half, x, list) {
         raise_listed(net, half, x, list);
         sweeps = sweeps.saturating_add(1);
     }
-    sweeps
+    (sweeps, false)
 }
 
-/// Lowers nodes until no sum passes 1 by too much, and counts the sweeps in which one fell.
-pub(crate) fn lower_until_trim(net: &Net, half: Half, x: &mut [i128], list: &mut WorkList) -> u64
+/// Lowers nodes until no sum passes 1 by too much, and counts the sweeps in which one fell. Where that is known already,
+/// no sum is looked at.
+pub(crate) fn lower_until_trim(
+    net: &Net,
+    half: Half,
+    x: &mut [i128],
+    is_trim: bool,
+    list: &mut WorkList,
+) -> u64
     requires built { IsBuilt net.now }
     requires lowerable { IsLowerable (seen half net.now) x.old }
+    requires trim { is_trim ≡ true → (i : ℕ) → i < net.now.nodes → IsTrim (seen half net.now) x.old i }
     ensures kept { IsLowering (seen half net.now) x.old x.new }
     ensures trim { (i : ℕ) → i < net.now.nodes → IsTrim (seen half net.now) x.new i }
 {
+    if is_trim {
+        return 0;
+    }
     let mut sweeps: u64 = 0;
     while lower_all(net, half, x, list) {
         lower_listed(net, half, x, list);

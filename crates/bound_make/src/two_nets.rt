@@ -6,7 +6,7 @@ ghost use Rattle.grid_net.specs.Level.{IsSupplied};
 ghost use Rattle.bound_make.specs.Scale.{IsGreatestLevel};
 ghost use Rattle.bound_make.specs.Halves.{IsTightHigh, IsTightLow};
 
-use crate::certifier::{Memory, greatest_level, list_span, memory_for};
+use crate::certifier::{greatest_level, list_span};
 use crate::half::Half;
 use crate::make::make;
 use crate::scale::scale_of;
@@ -15,8 +15,23 @@ use grid_net::{Net, Solver};
 use level_region::Region;
 use std::alloc::{AllocError, Global};
 
+/// The first entry of a list that is not asked for. A solver may leave such a list as it is.
+const NOT_ASKED: i128 = i128::MIN;
+
+// Tells a solver that a list is not asked for.
+fn ask_not(list: &mut [i128])
+    ensures { length list.new ≡ length list.old }
+{
+    if let Some(first) = list.get_mut(0) {
+        *first = NOT_ASKED;
+    }
+}
+
 // Fills the high list of the first network and the low list of the second one, of what a solver proposes for each. A third
 // list takes what it proposes besides.
+//
+// The cells of the work list come first in the region, before those that the solver works in, so that what it leaves there
+// stays until it is asked again.
 fn fill_halves<V: Solver>(
     of_high: &Net,
     of_low: &Net,
@@ -40,12 +55,15 @@ fn fill_halves<V: Solver>(
     ensures asked { Rose (V.proposals solver.old) (V.proposals solver.new) }
     ensures counted { V.proposals solver.old ≤ V.proposals solver.new }
     ensures told { V.told solver.new ≡ V.told solver.old }
+    ensures cells { length work.new.cells ≡ length work.old.cells }
 {
     let nodes = of_high.nodes() as usize;
     let _as_many = of_low.nodes();
+    ask_not(besides);
+    list_span(work, nodes);
     solver.propose(of_high, work, high, besides);
-    // the second proposal has the whole region too
-    work.reset();
+    ask_not(besides);
+    list_span(work, nodes);
     solver.propose(of_low, work, besides, low);
     let span = list_span(work, nodes);
     let mut list = WorkList::new(work.get_mut(span));
@@ -59,11 +77,13 @@ fn fill_halves<V: Solver>(
 /// of what a solver proposes for each. Errors: want of memory.
 ///
 /// All nodes of both are supplied. Whatever is proposed, there is no refusal. Where the two networks are one, the two lists
-/// are a tight certificate of it.
+/// are a tight certificate of it. The region is lent to be worked in, of any size; one of `region_for` of as many nodes and
+/// resistors is large enough. A solver may find there what it left the last time.
 pub fn certify_halves<V: Solver>(
     alloc: Global,
     of_high: &Net,
     of_low: &Net,
+    work: &mut Region,
     solver: &mut V,
 ) -> Result<(Vec<i128>, Vec<i128>), AllocError>
     requires high_supplied { (i : ℕ) → i < of_high.now.nodes → IsSupplied of_high.now i }
@@ -76,20 +96,19 @@ pub fn certify_halves<V: Solver>(
     ensures asked { IsOk result → Rose (V.proposals solver.old) (V.proposals solver.new) }
     ensures counted { V.proposals solver.old ≤ V.proposals solver.new }
     ensures told { V.told solver.new ≡ V.told solver.old }
+    ensures cells { length work.new.cells ≡ length work.old.cells }
 {
+    let high_level = greatest_level(of_high);
     let low_level = greatest_level(of_low);
-    let Memory {
-        level,
-        mut high,
-        mut low,
-        mut work,
-    } = memory_for(alloc, of_high)?;
-    let mut besides = vec![in alloc; 0; of_high.nodes() as usize]?;
+    let nodes = of_high.nodes() as usize;
+    let mut high = vec![in alloc; 0; nodes]?;
+    let mut low = vec![in alloc; 0; nodes]?;
+    let mut besides = vec![in alloc; 0; nodes]?;
     fill_halves(
         of_high,
         of_low,
-        (level, low_level),
-        &mut work,
+        (high_level, low_level),
+        work,
         &mut high,
         &mut low,
         &mut besides,

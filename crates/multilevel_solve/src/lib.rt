@@ -10,10 +10,12 @@
 
 mod assembly;
 mod clusters;
+mod kept;
 mod multilevel;
 mod null;
 mod parts;
 mod plain;
+mod print;
 mod refinement;
 
 pub use multilevel::Multilevel;

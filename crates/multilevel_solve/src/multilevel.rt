@@ -1,8 +1,10 @@
 ghost use Rattle.std.specs.Prelude.{◌≡◌, ℕ, None};
 
 use crate::assembly::invert;
+use crate::kept::{Kept, is_wanted};
 use crate::parts::{Part, split};
-use crate::refinement::{Half, Refining, Solving};
+use crate::print::Print;
+use crate::refinement::{Half, Levels, Solving};
 use grid_net::{Net, Solver};
 use level_region::Region;
 use solve_levels::{Column, Wides, Words};
@@ -15,10 +17,15 @@ use std::marker::Model;
 /// is cut from the region; where that has no room for a level it works on those above, and where it has none for the
 /// first it proposes a pad's voltage everywhere. It computes in whole numbers alone. docs/SOLVER.md tells the method.
 ///
+/// Where the levels of the proposal before still lie in the region, and are of the same resistors with pads at the same nodes,
+/// they are used again. A list whose first entry is the least number of 128 bits is not asked for, and stays as it is; where
+/// one list alone is asked for it is kept, and the next one starts from it.
+///
 /// Contracts see how many proposals it was asked for.
 #[derive(Drop)]
 pub struct Multilevel {
     proposals: u64,
+    kept: Option<Kept>,
 }
 
 impl Model for Multilevel {
@@ -29,99 +36,92 @@ impl Model for Multilevel {
     ghost view = { λ solver. solver.proposals };
 }
 
-/// Fills both lists with the first pad's voltage.
-fn fill(net: &Net, x: &mut [i128], w: &mut [i128]) {
-    let volts = net.pads().first().map_or(0, |pad| pad.volts);
-    x.fill(volts);
-    w.fill(volts);
+/// Fills a list with the first pad's voltage.
+fn fill(net: &Net, x: &mut [i128]) {
+    x.fill(net.pads().first().map_or(0, |pad| pad.volts));
 }
 
-/// The pad that is near a node, plus 1, or 0.
-fn near(words: &Words, refining: &Refining, node: u32) -> u32 {
-    let own = match &refining.inside {
-        Some(inside) => inside.near(words, node),
-        None => 0,
-    };
-    if own != 0 {
-        return own;
-    }
-    refining.first.near(words, node)
-}
-
-/// Gives each pad its voltage, and each other node that of a pad that is near.
-fn start(words: &Words, refining: &Refining, x: &mut [i128]) {
-    let net = refining.net;
-    let mut node: u32 = 0;
-    for entry in x.iter_mut() {
-        if node < net.nodes() {
-            let pad = near(words, refining, node);
-            if let Some(volts) = net.pad(node) {
-                *entry = volts;
-            } else if pad > 0 && pad <= net.nodes() {
-                *entry = net.pad(pad - 1).unwrap_or(*entry);
-            }
-        }
-        node = node.wrapping_add(1);
-    }
-}
-
-/// Makes both lists, the low one from the high one on.
-fn correct(words: &mut Words, refining: Refining, x: &mut [i128], w: &mut [i128]) {
-    let mut refining = refining;
-    start(words, &refining, x);
-    let gain = refining.refine(words, x, None);
-    if w.len() == x.len() {
-        w.copy_from_slice(x);
-    }
-    refining.half = Half::Low;
-    refining.refine(words, w, gain);
-}
-
-/// What refines a network without clusters. `None` where there is no room for the first level.
-fn whole<'a>(words: &mut Words, net: &'a Net, inverses: Column) -> Option<Refining<'a>> {
+/// The levels of a network without clusters. `None` where there is no room for the first one.
+fn whole(words: &mut Words, net: &Net, inverses: Column) -> Option<Levels> {
     let part = Part::whole(words, net)?;
-    let whole = Solving::build(words, net, inverses, part)?;
-    let lacks = whole.currents;
-    Some(Refining {
-        net,
+    let first = Solving::build(words, net, inverses, part)?;
+    let lacks = first.currents;
+    Some(Levels {
         inverses,
-        first: whole,
+        first,
         inside: None,
         lacks,
-        half: Half::High,
     })
 }
 
-/// What refines a network that has clusters.
-fn in_parts<'a>(
+/// The levels of a network that has clusters.
+fn in_parts(
     words: &mut Words,
-    net: &'a Net,
+    net: &Net,
     inverses: Column,
     (between, inside): (Part, Part),
-) -> Option<Refining<'a>> {
+) -> Option<Levels> {
     let lacks = Wides::cut(words, net.nodes() as usize)?;
     let first = Solving::build(words, net, inverses, between)?;
     let inside = Solving::build(words, net, inverses, inside)?;
-    Some(Refining {
-        net,
+    Some(Levels {
         inverses,
         first,
         inside: Some(inside),
         lacks,
-        half: Half::High,
     })
 }
 
-/// Makes both lists in the cells. `None` where there is no room for the first level.
-fn solve(net: &Net, cells: &mut [i128], x: &mut [i128], w: &mut [i128]) -> Option<()> {
-    let mut words = Words::new(cells);
-    let inverses = invert(&mut words, net.resistors())?;
-    let refining = match split(&mut words, net) {
-        Some(parts) => in_parts(&mut words, net, inverses, parts)?,
-        None => whole(&mut words, net, inverses)?,
+/// Makes the levels of a network in the words. `None` where there is no room for the first one.
+fn build(words: &mut Words, net: &Net, print: Print) -> Option<Kept> {
+    let mark = Wides::cut(words, 1)?;
+    let inverses = invert(words, net.resistors())?;
+    let levels = match split(words, net) {
+        Some(parts) => in_parts(words, net, inverses, parts)?,
+        None => whole(words, net, inverses)?,
     };
-    correct(&mut words, refining, x, w);
-    Some(())
+    Some(Kept::of(words, net, levels, print, mark))
+}
+
+/// The levels of a network: those that are kept, where they are of its resistors and pads and lie in the words, and else
+/// new ones. `None` where there is no room for the first one.
+fn levels_for(words: &mut Words, net: &Net, kept: Option<Kept>) -> Option<Kept> {
+    let print = Print::of(net);
+    match Kept::still(words, kept, print) {
+        Some(kept) => Some(kept),
+        None => build(words, net, print),
+    }
+}
+
+/// Makes the lists that are asked for in the cells, with the levels that are kept or with new ones, and answers what is to be
+/// kept. `None` where there is no room for the first level.
+fn solve(
+    net: &Net,
+    kept: Option<Kept>,
+    proposal: u64,
+    cells: &mut [i128],
+    x: &mut [i128],
+    w: &mut [i128],
+) -> Option<Kept> {
+    let mut words = Words::new(cells);
+    let is_high = is_wanted(x);
+    let is_low = is_wanted(w);
+    if is_high {
+        fill(net, x);
+    }
+    if is_low {
+        fill(net, w);
+    }
+    let mut kept = levels_for(&mut words, net, kept)?;
+    if is_high && is_low {
+        kept.correct_both(&mut words, net, x, w);
+    } else if is_high {
+        kept.correct_one(&mut words, net, Half::High, x);
+    } else if is_low {
+        kept.correct_one(&mut words, net, Half::Low, w);
+    }
+    kept.write_mark(&mut words, proposal);
+    Some(kept)
 }
 
 impl Multilevel {
@@ -129,7 +129,10 @@ impl Multilevel {
     pub fn new() -> Multilevel
         ensures { result ≡ 0 }
     {
-        Multilevel { proposals: 0 }
+        Multilevel {
+            proposals: 0,
+            kept: None,
+        }
     }
 }
 
@@ -140,10 +143,10 @@ impl Solver for Multilevel {
 
     fn propose(&mut self, net: &Net, work: &mut Region, x: &mut [i128], w: &mut [i128]) {
         self.proposals = self.proposals.saturating_add(1);
-        fill(net, x, w);
+        let kept = self.kept.take();
         let left = work.left();
         if let Some(span) = work.cut(left) {
-            let _ = solve(net, work.get_mut(span), x, w);
+            self.kept = solve(net, kept, self.proposals, work.get_mut(span), x, w);
         }
     }
 }

@@ -88,10 +88,9 @@ impl Solving {
     }
 }
 
-/// What is refined, and with what.
+/// What solves a network, as places of words. No voltage and no load of the network is in it.
 #[derive(Drop)]
-pub struct Refining<'a> {
-    pub net: &'a Net,
+pub struct Levels {
     pub inverses: Column,
     /// The whole, or what is between the clusters.
     pub first: Solving,
@@ -99,7 +98,45 @@ pub struct Refining<'a> {
     pub inside: Option<Solving>,
     /// What each sum lacks; of a whole these are the currents of its first level.
     pub lacks: Wides,
+}
+
+impl Levels {
+    /// The pad that is near a node, plus 1, or 0.
+    pub fn near(&self, words: &Words, node: u32) -> u32 {
+        let own = match &self.inside {
+            Some(inside) => inside.near(words, node),
+            None => 0,
+        };
+        if own != 0 {
+            return own;
+        }
+        self.first.near(words, node)
+    }
+}
+
+/// What is refined, and with what.
+#[derive(Clone, Copy)]
+pub struct Refining<'a> {
+    pub net: &'a Net,
+    pub levels: &'a Levels,
     pub half: Half,
+    /// One round has mended a list that lacked no more than this at any node; 0 where that is not known.
+    pub mended: u128,
+}
+
+/// What became of a list: what its rounds gain, if it is good, and what one round has mended.
+#[derive(Clone, Copy)]
+pub struct Refined {
+    pub gain: Option<Gain>,
+    pub mended: u128,
+}
+
+impl Refined {
+    /// Of no list.
+    pub const NOTHING: Refined = Refined {
+        gain: None,
+        mended: 0,
+    };
 }
 
 /// How many resistors stand at a node, and 1.
@@ -157,7 +194,7 @@ impl Refining<'_> {
     fn put_targets(&self, words: &mut Words, source: Source) {
         for node in 0..self.net.nodes() {
             let current = target(self.net, self.half, source, node);
-            self.lacks.put(words, node, current);
+            self.levels.lacks.put(words, node, current);
         }
     }
 
@@ -169,14 +206,14 @@ impl Refining<'_> {
             let at_a = x.get(a as usize).copied().unwrap_or(0);
             let at_b = x.get(b as usize).copied().unwrap_or(0);
             if at_a != at_b {
-                let inverse = self.inverses.at(words, k);
+                let inverse = self.levels.inverses.at(words, k);
                 let flow = flow(at_a.wrapping_sub(at_b), resistor.ohms, inverse);
                 let (from_a, from_b) = match self.half {
                     Half::High => (flow, (-1i128).wrapping_sub(flow)),
                     Half::Low => (flow.wrapping_add(1), flow.wrapping_neg()),
                 };
-                self.lacks.add(words, a, from_a.wrapping_neg());
-                self.lacks.add(words, b, from_b.wrapping_neg());
+                self.levels.lacks.add(words, a, from_a.wrapping_neg());
+                self.levels.lacks.add(words, b, from_b.wrapping_neg());
             }
             k = k.wrapping_add(1);
         }
@@ -199,7 +236,7 @@ impl Refining<'_> {
         };
         for node in 0..self.net.nodes() {
             if self.net.pad(node).is_none() {
-                let size = self.lacks.at(words, node).unsigned_abs();
+                let size = self.levels.lacks.at(words, node).unsigned_abs();
                 let window = degree(self.net, node).unsigned_abs().saturating_mul(31);
                 lack.is_none = lack.is_none && size <= window;
                 lack.total = lack.total.saturating_add(size);
@@ -215,9 +252,9 @@ impl Refining<'_> {
             let current = if self.net.pad(node).is_some() {
                 0
             } else {
-                shifted(self.lacks.at(words, node), scale.wrapping_neg())
+                shifted(self.levels.lacks.at(words, node), scale.wrapping_neg())
             };
-            self.lacks.put(words, node, current);
+            self.levels.lacks.put(words, node, current);
         }
     }
 
@@ -228,7 +265,7 @@ impl Refining<'_> {
         for node in 0..self.net.nodes() {
             let number = part.number(words, node);
             if number < part.nodes {
-                let current = shifted(self.lacks.at(words, node), scale.wrapping_neg());
+                let current = shifted(self.levels.lacks.at(words, node), scale.wrapping_neg());
                 solving.currents.add(words, number, current);
             }
         }
@@ -277,8 +314,8 @@ impl Refining<'_> {
 
     // One round: the whole, or first between the clusters and then inside them.
     fn correct_all(&self, words: &mut Words, x: &mut [i128], round: Round) {
-        self.correct(words, x, round, &self.first);
-        if let Some(inside) = &self.inside {
+        self.correct(words, x, round, &self.levels.first);
+        if let Some(inside) = &self.levels.inside {
             self.find_lack(words, x, Source::Flows);
             let next = Round {
                 source: Source::Flows,
@@ -289,12 +326,13 @@ impl Refining<'_> {
     }
 
     /// Corrects a list round by round, until each sum lies in its window, a round gains little, or what a round leaves is
-    /// known to be nothing. Answers that, if the list is good; `near` is that of the other list, from which this one
-    /// starts with known residuals. With clusters nothing is known: what is left over in one is found at one of its nodes.
-    pub fn refine(&self, words: &mut Words, x: &mut [i128], near: Option<Gain>) -> Option<Gain> {
-        let is_whole = self.inside.is_none();
+    /// known to be nothing; `near` is the gain of the other list, from which this one starts with known residuals. With
+    /// clusters nothing is known: what is left over in one is found at one of its nodes.
+    pub fn refine(&self, words: &mut Words, x: &mut [i128], near: Option<Gain>) -> Refined {
+        let is_whole = self.levels.inside.is_none();
         let mut gain = near;
         let mut before: u128 = 0;
+        let mut most: u128 = 0;
         for number in 0..ROUNDS {
             let source = if is_whole && near.is_some() && number == 0 {
                 Source::Known
@@ -304,21 +342,32 @@ impl Refining<'_> {
             self.find_lack(words, x, source);
             let lack = self.measure(words);
             if lack.is_none {
-                return gain;
+                return self.refined(gain, if number == 1 { most } else { 0 });
             }
             if before > 0 {
                 if number > 2 && lack.total > before / 2 {
-                    return None;
+                    return self.refined(None, 0);
                 }
                 gain = Some(worse(gain, lack.most, before));
             }
             before = lack.total;
+            most = lack.most;
             self.correct_all(words, x, Round { source, lack });
-            if is_whole && leaves_nothing(gain, lack.total) {
-                return gain;
+            if is_whole
+                && (leaves_nothing(gain, lack.total) || number == 0 && most <= self.mended)
+            {
+                return self.refined(gain, 0);
             }
         }
-        None
+        self.refined(None, 0)
+    }
+
+    // What became of a list that one round has mended, where it lacked that much.
+    fn refined(&self, gain: Option<Gain>, most: u128) -> Refined {
+        Refined {
+            gain,
+            mended: self.mended.max(most),
+        }
     }
 }
 

@@ -245,3 +245,97 @@ fn clusters_are_solved(rt: HostRuntime) -> Result<(), Fail> {
     assert!(rt; x[5] == VOLT && w[5] == VOLT);
     Ok(())
 }
+
+// A chain of four resistors of 1 ohm, with a pad at its end. Nodes 1 and 3 draw 1 mA each.
+fn chain(alloc: Global, volts: i128) -> Result<Net, Fail> {
+    let ohm = 1_000_000_000;
+    let resistors = vec![in alloc;
+        Resistor {
+            a: 0,
+            b: 1,
+            ohms: ohm
+        },
+        Resistor {
+            a: 1,
+            b: 2,
+            ohms: ohm
+        },
+        Resistor {
+            a: 2,
+            b: 3,
+            ohms: ohm
+        },
+        Resistor {
+            a: 3,
+            b: 4,
+            ohms: ohm
+        },
+    ]?;
+    let pads = vec![in alloc; Pad { node: 4, volts }]?;
+    let milli = 1_000_000_000_000;
+    let loads = vec![in alloc;
+        Load {
+            node: 1,
+            low: milli,
+            high: milli
+        },
+        Load {
+            node: 3,
+            low: milli,
+            high: milli
+        },
+    ]?;
+    Ok(Net::build(alloc, 5, resistors, pads, loads)?)
+}
+
+// Asks for one list alone of the chain, and answers whether that one is tight and the other is left as it was.
+fn one_list(
+    alloc: Global,
+    solver: &mut Multilevel,
+    work: &mut Region,
+    volts: i128,
+    sign: i128,
+) -> Result<bool, Fail> {
+    let net = chain(alloc, volts)?;
+    let mut wanted: [i128; 5] = [0; 5];
+    let mut other: [i128; 5] = [i128::MIN; 5];
+    if net.nodes() == 5 {
+        work.reset();
+        if sign == 1 {
+            solver.propose(&net, work, &mut wanted, &mut other);
+        } else {
+            solver.propose(&net, work, &mut other, &mut wanted);
+        }
+    }
+    let mut is_good = wanted[4] == volts && other == [i128::MIN; 5];
+    for node in 0..4_u32 {
+        is_good = is_good && is_tight(&net, &wanted, node, sign);
+    }
+    Ok(is_good)
+}
+
+#[test]
+fn levels_are_kept(rt: HostRuntime) -> Result<(), Fail> {
+    let alloc = rt.alloc();
+    let mut solver = Multilevel::new();
+    let mut work = Region::new(alloc, 300)?;
+    for step in 0..4_u32 {
+        let volts = VOLT + i128::from(step);
+        assert!(rt;
+            one_list(alloc, &mut solver, &mut work, volts, 1)?,
+            "high at step {step}"
+        );
+        let lower = volts - 7;
+        assert!(rt;
+            one_list(alloc, &mut solver, &mut work, lower, -1)?,
+            "low at step {step}"
+        );
+    }
+    // Another region of the same size, with nothing in it.
+    let mut anew = Region::new(alloc, 300)?;
+    assert!(rt;
+        one_list(alloc, &mut solver, &mut anew, VOLT, -1)?,
+        "in another region"
+    );
+    Ok(())
+}

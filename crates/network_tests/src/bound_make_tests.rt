@@ -315,7 +315,7 @@ impl Solver for Taking {
 }
 
 #[test]
-fn each_proposal_has_the_whole_region(rt: HostRuntime) {
+fn each_proposal_has_all_but_the_work_list(rt: HostRuntime) {
     let net = small_grid(&rt);
     match net.supply() {
         Ok(()) => {}
@@ -325,7 +325,10 @@ fn each_proposal_has_the_whole_region(rt: HostRuntime) {
         least: usize::MAX,
         proposals: 0,
     };
-    certify_halves(rt.alloc(), &net, &net, &mut solver).expect(&rt, "two lists");
-    let cells = 16 * net.nodes() as usize + 8 * net.resistors().len() + 64;
+    let mut work = region_for(rt.alloc(), net.nodes(), net.resistors().len()).expect(
+        &rt, "a region",
+    );
+    certify_halves(rt.alloc(), &net, &net, &mut work, &mut solver).expect(&rt, "two lists");
+    let cells = 14 * net.nodes() as usize + 8 * net.resistors().len() + 64;
     assert!(rt; cells <= solver.least, "{} cells of {cells}", solver.least);
 }

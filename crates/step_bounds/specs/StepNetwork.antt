@@ -1,5 +1,5 @@
 -- The network of one time step: the network itself, with a memory of the voltages before at the capacitors.
-use Rattle.std.specs.Prelude.{ℕ, ◌+◌, ◌==◌, ℤ, Bool, List, ◌++◌, length, map, filter, Option}
+use Rattle.std.specs.Prelude.{ℕ, ◌+◌, ◌==◌, ℤ, Bool, List, ◌++◌, length, map, filter, min, Option}
 use Rattle.std.specs.List.{range_with_len, list_any}
 use Rattle.grid_net.specs.declared.part.Resistor.{Resistor}
 use Rattle.grid_net.specs.declared.part.Pad.{Pad}
@@ -7,6 +7,7 @@ use Rattle.grid_net.specs.declared.part.Load.{Load}
 use Rattle.grid_net.specs.declared.error.NetError.{NetError}
 use Rattle.grid_net.specs.Network.{Network, entry_of}
 use Rattle.grid_net.specs.Building.{network_of, first_net_refusal}
+use Rattle.bound_make.specs.Certifier.{region_cells}
 use Rattle.step_bounds.specs.declared.companion.Companion.{Companion}
 use Rattle.wave_file.specs.declared.record.Change.{Change}
 use Rattle.step_bounds.specs.Changes.{step_loads}
@@ -39,6 +40,12 @@ step_nodes net companions = net.nodes + length (nodes_with_memory companions net
 -- Its resistors: the network's, and then one for each capacitor that counts, in the order of the cards.
 abbrev pub step_resistors : Network → List Companion → List Resistor
 step_resistors net companions = net.resistors ++ map (memory_resistor companions net.nodes) companions
+
+-- How many cells the region has in which the lists of all steps are made: as many as for a step's network, of which one with
+-- more than 4 million resistors is refused.
+abbrev pub step_cells : Network → List Companion → ℕ
+step_cells net companions =
+    region_cells (step_nodes net companions) (length net.resistors + min (length companions) 4000000)
 
 -- Its pads over a list of voltages: the network's, and then one at each memory node.
 abbrev pub step_pads : Network → List Companion → List ℤ → List Pad

@@ -2,7 +2,7 @@
 ghost use Rattle.std.specs.Prelude.{◌≡◌, ◌≤ℤ◌, ◌<◌, ◌++◌, All, None, length, map, IfOk, IfErr, IsOk};
 ghost use Rattle.grid_net.specs.Network.{entry_of};
 ghost use Rattle.grid_net.specs.Limits.{IsBuilt};
-ghost use Rattle.step_bounds.specs.StepNetwork.{step_nodes as nodes_of_step, step_resistors as resistors_of_step, step_pads as pads_of_step, network_over as network_of_lists, refusal_over, memory_resistor, memory_pad, nodes_with_memory};
+ghost use Rattle.step_bounds.specs.StepNetwork.{step_nodes as nodes_of_step, step_resistors as resistors_of_step, step_pads as pads_of_step, network_over as network_of_lists, refusal_over, memory_resistor, memory_pad, nodes_with_memory, step_cells};
 ghost use Rattle.step_bounds.specs.inside.Extension.{AreCompanions, AreMemories, IsExtension};
 ghost use Rattle.step_bounds.specs.inside.Loads.{AreLoads};
 ghost use Rattle.step_bounds.specs.inside.Passed.{IsPassed};
@@ -11,7 +11,9 @@ use crate::companion::Companion;
 use crate::copies::{copy_loads, copy_pads, copy_resistors};
 use crate::extension::{Extension, Memories};
 use crate::passed::{Passed, passed_by};
-use grid_net::{Load, Net, Pad, Resistor};
+use bound_make::region_for;
+use grid_net::{Load, MOST_RESISTORS, Net, Pad, Resistor};
+use level_region::Region;
 use std::alloc::{AllocError, Global};
 
 // The resistors of a step's network.
@@ -65,6 +67,20 @@ fn step_nodes(net: &Net, extension: &Extension) -> u32
     ensures built { IsBuilt net.now }
 {
     net.nodes() + extension.memories.nodes.len() as u32
+}
+
+/// The region in which the lists of all steps are made. Errors: want of memory.
+pub(crate) fn region_of_steps(
+    alloc: Global,
+    net: &Net,
+    extension: &Extension,
+) -> Result<Region, AllocError>
+    requires { IsExtension net.now extension.now }
+    ensures { IfOk result (λ region. length region.cells ≡ step_cells net.now extension.now.companions.items) }
+{
+    let nodes = step_nodes(net, extension);
+    let more = extension.companions.len().min(MOST_RESISTORS as usize);
+    region_for(alloc, nodes, net.resistors().len() + more)
 }
 
 /// The network of a step with these loads, over a list of voltages. Errors: a quantity passes its limit; want of memory.

@@ -2,7 +2,7 @@
 ghost use Rattle.std.specs.Prelude.{◌≡◌, ◌≤◌, ◌<◌, ℕ, None, length, IfOk, IfErr, IsOk};
 ghost use Rattle.outside.specs.Counts.{Rose};
 ghost use Rattle.grid_net.specs.Level.{IsSupplied};
-ghost use Rattle.step_bounds.specs.StepNetwork.{refusal_over};
+ghost use Rattle.step_bounds.specs.StepNetwork.{refusal_over, step_cells};
 ghost use Rattle.step_bounds.specs.StepCertificate.{IsHighBound, IsLowBound};
 ghost use Rattle.step_bounds.specs.inside.Extension.{IsExtension};
 ghost use Rattle.step_bounds.specs.inside.Loads.{AreLoads};
@@ -14,6 +14,7 @@ use crate::network::network_over;
 use crate::passed::Passed;
 use bound_make::certify_halves;
 use grid_net::{Load, Net, Solver, built_network};
+use level_region::Region;
 use std::alloc::Global;
 
 // The bounds of a step with these loads, over the two lists of the step before. Errors: a quantity of its network over one
@@ -25,11 +26,13 @@ fn bounds_of<V: Solver>(
     loads: &[Load],
     over_high: &[i128],
     over_low: &[i128],
+    work: &mut Region,
     solver: &mut V,
 ) -> Result<Bounds, Passed>
     requires extension { IsExtension net.now extension.now }
     requires loads { AreLoads net.now.nodes loads.now }
     requires supplied { (i : ℕ) → i < net.now.nodes → IsSupplied net.now i }
+    requires cells { length work.old.cells ≡ step_cells net.now extension.now.companions.items }
     requires high_size { length over_high.now ≡ net.now.nodes }
     requires low_size { length over_low.now ≡ net.now.nodes }
     ensures high_bound { IfOk result (λ b.
@@ -47,13 +50,14 @@ fn bounds_of<V: Solver>(
     ensures asked { IsOk result → Rose (V.proposals solver.old) (V.proposals solver.new) }
     ensures counted { V.proposals solver.old ≤ V.proposals solver.new }
     ensures told { V.told solver.new ≡ V.told solver.old }
+    ensures cells { length work.new.cells ≡ length work.old.cells }
 {
     // tells that no node has two pads of different voltages
     built_network();
     let nodes = net.nodes() as usize;
     let high_net = network_over(alloc, net, extension, loads, over_high)?;
     let low_net = network_over(alloc, net, extension, loads, over_low)?;
-    let (mut high, mut low) = certify_halves(alloc, &high_net, &low_net, solver)?;
+    let (mut high, mut low) = certify_halves(alloc, &high_net, &low_net, work, solver)?;
     high.truncate(nodes);
     low.truncate(nodes);
     Ok(Bounds { high, low })
@@ -68,19 +72,24 @@ pub(crate) fn bounds_over<V: Solver>(
     loads: &[Load],
     lists: &Lists,
     t: u32,
+    work: &mut Region,
     solver: &mut V,
 ) -> Result<Bounds, Passed>
     requires extension { IsExtension net.now extension.now }
     requires loads { AreLoads net.now.nodes loads.now }
     requires supplied { (i : ℕ) → i < net.now.nodes → IsSupplied net.now i }
     requires lists { AreLists net.now.nodes t lists.now }
+    requires cells { length work.old.cells ≡ step_cells net.now extension.now.companions.items }
     ensures bounds { IfOk result (λ b. AreBounds net.now extension.now.companions.items loads.now t lists.now b) }
     ensures passed { IfErr result (λ e. IsPassedAt net.now extension.now.companions.items loads.now t lists.now e) }
     ensures asked { IsOk result → Rose (V.proposals solver.old) (V.proposals solver.new) }
     ensures counted { V.proposals solver.old ≤ V.proposals solver.new }
     ensures told { V.told solver.new ≡ V.told solver.old }
+    ensures cells { length work.new.cells ≡ length work.old.cells }
 {
     let over_high = lists.high[t as usize].as_slice();
     let over_low = lists.low[t as usize].as_slice();
-    bounds_of(alloc, net, extension, loads, over_high, over_low, solver)
+    bounds_of(
+        alloc, net, extension, loads, over_high, over_low, work, solver,
+    )
 }

@@ -15,6 +15,7 @@ use crate::first::first_bounds;
 use crate::laws::stepped_solutions_lie_between;
 use crate::lists::Lists;
 use crate::loads::{advance, loads_of};
+use crate::network::region_of_steps;
 use crate::passed::Passed;
 use crate::step::bounds_over;
 use crate::steps::Steps;
@@ -81,16 +82,17 @@ pub fn step_all<V: Solver>(
 {
     stepped_solutions_lie_between();
     let extension = extension_of(alloc, net, caps, time)?;
+    let mut work = region_of_steps(alloc, net, &extension)?;
     let mut loads = loads_of(alloc, net)?;
     let mut lists = Lists {
         high: Vec::new(alloc),
         low: Vec::new(alloc),
     };
-    lists.add(first_bounds(alloc, net, solver)?)?;
+    lists.add(first_bounds(alloc, net, &mut work, solver)?)?;
     let mut reached = 0;
     for t in 0..steps {
         reached = advance(&mut loads, changes, reached, t + 1);
-        match bounds_over(alloc, net, &extension, &loads, &lists, t, solver) {
+        match bounds_over(alloc, net, &extension, &loads, &lists, t, &mut work, solver) {
             Ok(bounds) => lists.add(bounds)?,
             Err(passed) => return Err(error_at(t + 1, passed, lists)),
         }

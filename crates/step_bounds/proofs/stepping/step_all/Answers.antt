@@ -82,6 +82,7 @@ loop-t-preserved g c =
       asked = rose_after (V.proposals c.args.solver.now) (V.proposals c.loop-t.solver) (V.proposals c.bounds_over.new.solver) inv.counted
           (c.in-Ok.ensures.asked refl);
       told = c.bounds_over.ensures.told ∙ inv.told;
+      cells = c.bounds_over.ensures.cells ∙ inv.cells;
     }
 
 pub returns-clause-certificate : goal.returns-clause-certificate

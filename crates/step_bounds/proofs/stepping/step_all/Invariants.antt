@@ -2,6 +2,7 @@ use Rattle.std.proofs.Common.{◌≡◌, ◌≤◌, ◌<◌, ◌+◌, ℕ, lengt
 use Rattle.outside.specs.Counts.{Rose}
 use Rattle.grid_net.specs.Network.{load_range}
 use Rattle.wave_file.specs.declared.record.Change.{Change}
+use Rattle.step_bounds.specs.StepNetwork.{step_cells}
 use Rattle.step_bounds.specs.StepCertificate.{IsStepCertificate, KeepStepLimits}
 use Rattle.step_bounds.specs.inside.Loads.{loads_after}
 use Rattle.step_bounds.proofs.stepping.step_all.Given as goal
@@ -18,4 +19,5 @@ invariant-loop-t g l =
       counted : V.proposals l.fn.solver ≤ V.proposals l.solver;
       asked : Rose (V.proposals l.fn.solver) (V.proposals l.solver);
       told : V.told l.solver ≡ V.told l.fn.solver;
+      cells : length l.work.cells ≡ step_cells l.net l.extension.companions.items;
     }

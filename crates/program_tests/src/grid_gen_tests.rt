@@ -1,9 +1,8 @@
 use grid_gen::*;
-use std::test::Fail;
 
 #[test]
-fn the_smallest_side(rt: HostRuntime) -> Result<(), Fail> {
-    let inputs = generate(rt.alloc(), 0, 24)?;
+fn the_smallest_side(rt: HostRuntime) {
+    let inputs = generate(rt.alloc(), 0, 24).expect(&rt, "memory");
     let def = inputs.def.as_slice();
     assert!(rt;
         def.starts_with(
@@ -17,5 +16,4 @@ fn the_smallest_side(rt: HostRuntime) -> Result<(), Fail> {
             b"cell C3 1u\npad VSS metal7 0.0 2.0\npad VSS metal7 33.6 2.0\npad VDD metal7 0.0 22.0\npad VDD metal7 33.6 22.0\n"
         )
     );
-    Ok(())
 }

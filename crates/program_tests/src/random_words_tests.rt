@@ -2,8 +2,7 @@
 use crate::same::same_at;
 use command_words::{Command, WordsError, read};
 use outside::Argv;
-use std::alloc::Global;
-use std::test::Fail;
+use std::process::Abort;
 
 /// How many lists are read.
 const LISTS: usize = 1000;
@@ -12,7 +11,7 @@ const LISTS: usize = 1000;
 const COMMANDS: usize = 436;
 
 /// Words of `check`, which are a command as they stand.
-const BASES: [&[&str]; 4] = [
+static BASES: [&[&str]; 4] = [
     &["--netlist", "a", "--certificate", "b"],
     &["--certificate", "b=1", "--netlist", "a"],
     &["--netlist=a", "--certificate", "b"],
@@ -20,7 +19,7 @@ const BASES: [&[&str]; 4] = [
 ];
 
 /// Words that take the place of others.
-const WORDS: [&str; 16] = [
+static WORDS: [&str; 16] = [
     "--netlist",
     "--certificate",
     "--netlist=a",
@@ -54,17 +53,21 @@ impl Numbers {
 }
 
 /// The words of a list: those of a base, some of them replaced, and perhaps one word more.
-fn list_at(alloc: Global, numbers: &mut Numbers) -> Result<Vec<&'static str>, Fail> {
-    let mut words = Vec::new(alloc);
+fn list_at(rt: &(impl Abort + AllocGlobal), numbers: &mut Numbers) -> Vec<&'static str> {
+    let mut words = Vec::new(rt.alloc());
     for word in BASES[(numbers.next() % 4) as usize] {
         let other = WORDS[(numbers.next() % 16) as usize];
         let replaced = numbers.next() % 4 == 0;
-        words.push(if replaced { other } else { *word })?;
+        words
+            .push(if replaced { other } else { *word })
+            .expect(rt, "memory");
     }
     if numbers.next() % 16 == 0 {
-        words.push(WORDS[(numbers.next() % 16) as usize])?;
+        words
+            .push(WORDS[(numbers.next() % 16) as usize])
+            .expect(rt, "memory");
     }
-    Ok(words)
+    words
 }
 
 /// An option of `check`.
@@ -146,37 +149,50 @@ fn plain<'a>(words: &[&'a str]) -> Option<(&'a str, &'a str)> {
 }
 
 /// The words of `check` with these options.
-fn check(alloc: Global, options: &[&str]) -> Result<Argv, Fail> {
-    let mut argv = Argv::new(alloc)?;
-    argv.push("check")?;
+fn check(rt: &(impl Abort + AllocGlobal), options: &[&str]) -> Argv {
+    let mut argv = Argv::new(rt.alloc()).expect(rt, "memory");
+    argv.push("check").expect(rt, "memory");
     for option in options {
-        argv.push(*option)?;
+        argv.push(*option).expect(rt, "memory");
     }
-    Ok(argv)
+    argv
+}
+
+/// The netlist and the certificate of what is read.
+fn named<'a>(
+    rt: &impl Abort,
+    answer: &'a Result<Command, WordsError>,
+) -> Option<(&'a str, &'a str)> {
+    match answer {
+        Ok(
+            Command::Check {
+                netlist,
+                certificate,
+            },
+        ) => Some((netlist.as_str(), certificate.as_str())),
+        Err(WordsError::Usage) => None,
+        _ => panic!(rt; "another answer"),
+    }
+}
+
+/// Compares what is read of a list of words with their plain reading, and tells whether they are a command.
+fn is_command(rt: &(impl Abort + AllocGlobal), words: &[&str], list: usize) -> bool {
+    let argv = check(rt, words);
+    let answer = read(rt.alloc(), &argv);
+    let names = named(rt, &answer);
+    same_at(rt, names, plain(words), list);
+    names.is_some()
 }
 
 #[test]
-fn lists_at_random(rt: HostRuntime) -> Result<(), Fail> {
+fn lists_at_random(rt: HostRuntime) {
     let mut numbers = Numbers { state: 1 };
     let mut commands: usize = 0;
     for list in 0..LISTS {
-        let words = list_at(rt.alloc(), &mut numbers)?;
-        let argv = check(rt.alloc(), &words)?;
-        match read(rt.alloc(), &argv) {
-            Ok(
-                Command::Check {
-                    netlist,
-                    certificate,
-                },
-            ) => {
-                let names = Some((netlist.as_str(), certificate.as_str()));
-                same_at(&rt, names, plain(&words), list);
-                commands = commands.saturating_add(1);
-            }
-            Err(WordsError::Usage) => same_at(&rt, None, plain(&words), list),
-            _ => panic!(rt; "another answer"),
+        let words = list_at(&rt, &mut numbers);
+        if is_command(&rt, &words, list) {
+            commands = commands.saturating_add(1);
         }
     }
     same_at(&rt, commands, COMMANDS, LISTS);
-    Ok(())
 }

@@ -10,8 +10,7 @@ use lef_tech::{Tech, read_tech};
 use outside::Name;
 use pdn_script::{Script, read_script};
 use refusal_words::*;
-use std::alloc::{AllocError, Global};
-use std::test::Fail;
+use std::process::Abort;
 use via_arrays::StackError;
 use wired_grid::{WireCount, WiredError};
 
@@ -130,7 +129,7 @@ fn touch() -> (DrawError, &'static [u8]) {
 }
 
 /// Refusals of an extraction, and what is told of each.
-const EXTRACTION: [(ExtractError, &[u8]); 4] = [
+static EXTRACTION: [(ExtractError, &[u8]); 4] = [
     (ExtractError::UnknownName(4), b"UnknownName 4"),
     (ExtractError::NoSupply(1), b"NoSupply VSS"),
     (ExtractError::PadOff(10), b"PadOff 10"),
@@ -167,81 +166,69 @@ const WIRED: [(WiredError, &[u8]); 9] = [
 ];
 
 // A grid of two nets.
-fn grid(alloc: Global) -> Result<Grid, AllocError> {
-    Ok(Grid {
+fn grid(rt: &(impl Abort + AllocGlobal)) -> Grid {
+    let alloc = rt.alloc();
+    let first = Name::new(alloc, b"VDD").expect(rt, "memory");
+    let second = Name::new(alloc, b"VSS").expect(rt, "memory");
+    Grid {
         units: 2000,
-        nets: Entries::new(vec![in alloc; Name::new(alloc, b"VDD")?, Name::new(alloc, b"VSS")?]?),
-        power: Entries::new(vec![in alloc; true, false]?),
+        nets: Entries::new(vec![in alloc; first, second].expect(rt, "memory")),
+        power: Entries::new(vec![in alloc; true, false].expect(rt, "memory")),
         domains: Entries::new(Vec::new(alloc)),
         pieces: Entries::new(Vec::new(alloc)),
         stacks: Entries::new(Vec::new(alloc)),
-    })
+    }
 }
 
-// The first refusal of a drawing that is told otherwise, `DRAWING` where there is none.
-fn first_drawing_untold(
-    alloc: Global,
+/// Compares what is told of a refusal of a drawing.
+fn compare_drawing(
+    rt: &(impl Abort + AllocGlobal),
     tech: &Tech,
     design: &Design,
     script: &Script,
-) -> Result<usize, AllocError> {
-    for at in 0..DRAWING {
-        let (error, words) = drawing(at);
-        let told = draw_words(alloc, tech, design, script, &error)?;
-        if told.as_slice() != words {
-            return Ok(at);
-        }
-    }
-    Ok(DRAWING)
-}
-
-// Whether a name of any bytes is told as it stands.
-fn tells_any_bytes(
-    alloc: Global,
-    tech: &Tech,
-    design: &Design,
-    script: &Script,
-) -> Result<bool, AllocError> {
-    let unknown = DrawError::UnknownName(Name::new(alloc, b"m\xff 4")?);
-    let told = draw_words(alloc, tech, design, script, &unknown)?;
-    Ok(told.as_slice() == b"UnknownName m\xff 4".as_slice())
-}
-
-// The first refusal of an extraction that is told otherwise, their number where there is none.
-fn first_extraction_untold(alloc: Global, design: &Design) -> Result<usize, AllocError> {
-    let grid = grid(alloc)?;
-    for (at, (error, words)) in EXTRACTION.iter().enumerate() {
-        let told = extract_words(alloc, &grid, design, error)?;
-        if told.as_slice() != *words {
-            return Ok(at);
-        }
-    }
-    Ok(EXTRACTION.len())
-}
-
-// The first refusal of wiring that is told otherwise, their number where there is none.
-fn first_wired_untold(alloc: Global, tech: &Tech) -> Result<usize, Fail> {
-    let wires = read_wires(alloc, WIRING)?;
-    for (at, (error, words)) in WIRED.iter().enumerate() {
-        let told = wired_words(alloc, tech, &wires, error)?;
-        if told.as_slice() != *words {
-            return Ok(at);
-        }
-    }
-    Ok(WIRED.len())
+    refusal: (&DrawError, &[u8]),
+) {
+    let told = draw_words(rt.alloc(), tech, design, script, refusal.0).expect(rt, "memory");
+    same(rt, told.as_slice(), refusal.1);
 }
 
 #[test]
-fn told_refusals(rt: HostRuntime) -> Result<(), Fail> {
-    let tech = read_tech(rt.alloc(), TECHNOLOGY)?;
-    let design = read_design(rt.alloc(), DESIGN)?;
-    let script = read_script(rt.alloc(), SCRIPT)?;
-    let drawn = first_drawing_untold(rt.alloc(), &tech, &design, &script)?;
-    same(&rt, drawn, DRAWING);
-    assert!(rt; tells_any_bytes(rt.alloc(), &tech, &design, &script)?);
-    let extracted = first_extraction_untold(rt.alloc(), &design)?;
-    assert!(rt; extracted == EXTRACTION.len());
-    let wired = first_wired_untold(rt.alloc(), &tech)?;
-    assert!(rt; wired == WIRED.len());
-    Ok(())
+fn refusals_of_a_drawing(rt: HostRuntime) {
+    let tech = read_tech(rt.alloc(), TECHNOLOGY).expect(&rt, "a technology");
+    let design = read_design(rt.alloc(), DESIGN).expect(&rt, "a design");
+    let script = read_script(rt.alloc(), SCRIPT).expect(&rt, "a script");
+    for at in 0..DRAWING {
+        let (error, words) = drawing(at);
+        compare_drawing(&rt, &tech, &design, &script, (&error, words));
+    }
+    // a name of any bytes is told as it stands
+    let name = Name::new(rt.alloc(), b"m\xff 4").expect(&rt, "memory");
+    let unknown = DrawError::UnknownName(name);
+    compare_drawing(
+        &rt,
+        &tech,
+        &design,
+        &script,
+        (&unknown, b"UnknownName m\xff 4"),
+    );
+}
+
+#[test]
+fn refusals_of_an_extraction(rt: HostRuntime) {
+    let design = read_design(rt.alloc(), DESIGN).expect(&rt, "a design");
+    let grid = grid(&rt);
+    for (error, words) in &EXTRACTION {
+        let told = extract_words(rt.alloc(), &grid, &design, error).expect(&rt, "memory");
+        same(&rt, told.as_slice(), *words);
+    }
+}
+
+#[test]
+fn refusals_of_wiring(rt: HostRuntime) {
+    let tech = read_tech(rt.alloc(), TECHNOLOGY).expect(&rt, "a technology");
+    let wires = read_wires(rt.alloc(), WIRING).expect(&rt, "wiring");
+    for (error, words) in &WIRED {
+        let told = wired_words(rt.alloc(), &tech, &wires, error).expect(&rt, "memory");
+        same(&rt, told.as_slice(), *words);
+    }
 }

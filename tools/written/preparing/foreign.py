@@ -13,9 +13,10 @@ def read_wiring(design, library, rules, wanted):
     vias, nets = Vias(design, library, rules), []
     uses = uses_of_pins(library)
     for words in design.nets:
-        if not is_wired(words):
-            continue
         name = design.plain_name(words[1])
+        if not is_wired(words):
+            design.source.tell("passed over", words[1], "a special net without metal")
+            continue
         use = use_of(design, words, name, uses)
         if use not in ("POWER", "GROUND") or (wanted and name not in wanted):
             design.source.tell_of("left out", words[1], "SPECIALNETS", "a wired net that is not the power or the ground net of the grid")
@@ -27,7 +28,8 @@ def read_wiring(design, library, rules, wanted):
     for use in ("POWER", "GROUND"):
         named = [net for net in nets if net.use == use]
         if len(named) != 1:
-            raise Refused(design.source.path, None, f"SPECIALNETS: {len(named)} wired nets of {use}, and pdn signs off one; name two nets by --nets")
+            line = design.source.line(named[1].word) if named else None
+            raise Refused(design.source.path, line, f"SPECIALNETS: {len(named)} wired nets of {use}, and pdn signs off one; name two nets by --nets")
     for net in nets:
         put_in_order(net, vias, design, library)
     return nets, vias
@@ -60,7 +62,7 @@ def uses_of_pins(library):
 def put_in_order(net, vias, design, library):
     """Each segment and each via once, rails where the cells have them, and nothing within other metal."""
     source = design.source
-    net.vias = once(net.vias, source, "the via stands twice at its place")
+    net.vias = largest(once(net.vias, source, "the via stands twice at its place"), vias, source)
     net.segments = once(net.segments, source, "the segment stands twice")
     add_rails(net, vias, design, library)
     pieces = joined(net.segments, source)
@@ -78,6 +80,20 @@ def once(things, source, why):
             source.changes.tell("left out", source.path, thing.line, thing[0], why)
         else:
             found[thing[:-1]] = thing
+    return list(found.values())
+
+
+def largest(stood, vias, source):
+    """Of several vias at one place that join the same layers the one with the most cuts: the others' cuts may be the same ones."""
+    found = {}
+    for via in stood:
+        made = vias.made[via.name]
+        place = made.lower, via.x, via.y
+        held = found.setdefault(place, via)
+        if held is via:
+            continue
+        less, found[place] = (held, via) if vias.made[held.name].cuts < made.cuts else (via, held)
+        source.changes.tell("left out", source.path, less.line, less.name, f"another via of these layers stands at its place, {found[place].name}")
     return list(found.values())
 
 

@@ -1,4 +1,5 @@
 """Vias of foreign wiring as generated vias: those of a rule in the one order that `pdn` reads, fixed ones as arrays of as many cuts."""
+import math
 from typing import NamedTuple
 
 from .design import parts_of, whole
@@ -8,9 +9,10 @@ ORDER = ("VIARULE", "CUTSIZE", "LAYERS", "CUTSPACING", "ENCLOSURE", "ROWCOL")
 
 
 class Generated(NamedTuple):
-    """A generated via: its layers from the lowest, and its entry."""
+    """A generated via: its layers from the lowest, how many cuts it has, and its entry."""
     lower: str
     upper: str
+    cuts: int
     text: str
 
 
@@ -69,7 +71,8 @@ class Vias:
         if [part for part, _, _ in parts if part in ORDER] != [part for part in ORDER if part in found]:
             source.tell("changed", parts[0][1], f"of via {name}: its parts are put in order")
         text = f"- {name} " + "".join(f"+ {part} {' '.join(map(str, found[part]))} " for part in ORDER if part in found) + ";\n"
-        return Generated(str(found["LAYERS"][0]), str(found["LAYERS"][2]), text)
+        counts = [whole(source, word) for word in found.get("ROWCOL", ())]
+        return Generated(str(found["LAYERS"][0]), str(found["LAYERS"][2]), math.prod(counts), text)
 
     def boxes_of_lef(self, name):
         """The rectangles of a fixed via of the LEF in units."""
@@ -98,7 +101,7 @@ class Vias:
         source.tell("changed", word, f"a via of rectangles, written as a generated via of rule {self.rules[pair]} with {columns} by {rows} cuts")
         text = (f"- {name} + VIARULE {self.rules[pair]} + CUTSIZE {size[0]} {size[1]} + LAYERS {' '.join(pair)} + CUTSPACING {apart[0]} {apart[1]} "
                 f"+ ENCLOSURE {' '.join(map(str, enclosures))} + ROWCOL {rows} {columns} ;\n")
-        return Generated(pair[0], pair[2], text)
+        return Generated(pair[0], pair[2], columns * rows, text)
 
 
 def array_of(cuts):

@@ -46,6 +46,24 @@ def ring(x, y, content=""):
                    for stroke, width in (("#ffffff", 5), ("#111111", 2)))
 
 
+def size_of(die, units):
+    """The size of the die in words, where both are known."""
+    if die is None:
+        return "a die of unknown size"
+    lengths = (die[2] - die[0], die[3] - die[1])
+    if units is None:
+        return f"{lengths[0]} by {lengths[1]} units"
+    return " by ".join(trimmed(length * 10 ** 6 // units, 6) for length in lengths) + " µm"
+
+
+def heading(chip, head):
+    """What is drawn: the design, its die, and the files."""
+    pins = chip.count_of_pins()
+    return (f"{head.design or 'a design without a name'}: {size_of(head.die, head.units)}",
+            f"{len(chip.report.nodes)} nodes, {len(chip.report.branches)} branches; {chip.report.verdicts(chip.report.branches)}"
+            + (f"; {pins} along pins of blocks, which the DEF does not have" if pins else ""))
+
+
 class Map:
     """What is drawn of a chip in one view."""
 

@@ -77,8 +77,9 @@ def read_cards(path):
 
 
 def read_layer_notes(path):
-    """By the number of a layer of a net the names of both, from the comments at the head of a netlist of `pdn build`."""
+    """By the number of a layer of a net the names of both, from the comments at the head of a netlist of `pdn build`. A netlist without a card
+    has no node, and none of these comments."""
     notes = {int(found[3]): (found[2], found[1]) for found in map(_NOTE.fullmatch, read_text(path).split("\n")) if found}
-    if not notes:
+    if not notes and read_cards(path):
         raise Refused(path, 1, "no line '* layer: LAYER,NET net: NUMBER' says which layer and net has which number")
     return notes

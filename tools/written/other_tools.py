@@ -3,7 +3,7 @@ import os
 import shutil
 import subprocess
 
-from .refusal import Refused
+from .refusal import Refused, read_text, write_text
 
 
 def is_missing(tool, what):
@@ -23,6 +23,13 @@ def output_of(words, folder, seconds=600):
         raise Refused(words[0], None, f"came to no end in {seconds} seconds") from None
     text = (done.stdout + done.stderr).decode("utf-8", "replace")
     return done.returncode, text
+
+
+def copied(path, folder, name):
+    """A copy of a text in a folder, under a name by which other tools tell its format."""
+    copy = os.path.join(folder, name)
+    write_text(copy, read_text(path))
+    return copy
 
 
 def refuse_output(tool, text, path):

@@ -1,8 +1,8 @@
 """The figures of one run, net by net, as whole numbers of small units: what its report says of drops, currents and verdicts."""
 from collections import Counter
 
-from ..bounds import Drops, current, is_over, share
-from ..report import VERDICTS, Report
+from ..bounds import current, is_over, share
+from ..report import VERDICTS
 
 
 def strain(branch):
@@ -21,10 +21,8 @@ def branch_figures(report, places):
     return {"branch": f"R{worst + 1}", "current_na": current(branch), "limit_fa": branch.limit, "share_ppm": share(branch)}
 
 
-def figures_of(path, netlist):
+def figures_of(report, drops):
     """For each net of a report its worst node, its worst branch, and how many branches have each verdict."""
-    report = Report(path)
-    drops = Drops(report, netlist)
     places = [[] for _ in report.nets]
     for place, branch in enumerate(report.branches):
         places[drops.net_of(branch.start)].append(place)

@@ -1,11 +1,18 @@
 """The steps of one run: its texts, the run, its check and its figures. Each leaves its files in one move, when all of them are whole."""
+import html
 import os
 import shutil
 import subprocess
 from pathlib import Path
 
-from ..refusal import Refused
-from . import texts
+from ..bounds import Drops
+from ..chip_map import heading
+from ..html_map import Page
+from ..matching import Chip
+from ..refusal import Refused, write_text
+from ..report import Report
+from ..routed import Routed
+from . import corner_texts, texts
 from .figures import figures_of
 from .records import ANSWERS, FINISHED, checksum, machine, measured, read_record, write_record
 
@@ -62,6 +69,13 @@ def forget_fault(name):
     Path(f"faults/{name}.json").unlink(missing_ok=True)
 
 
+def make_corner(lef, prepared, corner, out):
+    """The texts of a corner: the technology that is named, and the bias file of the block."""
+    part = beginning(out)
+    corner_texts.write(lef, f"{prepared}/bias", corner, part)
+    into_place(part, out)
+
+
 def build(name, command, prepared, corner, pdn, out):
     """Runs build or signoff, and leaves what it wrote with a record. An answer that is no grid is a record alone."""
     # what an earlier run came to is no figure of this one
@@ -116,28 +130,41 @@ def is_accepted(record):
     return record.get("checked", {}).get("status") == 0
 
 
-def figures(run, prepared, corner, out):
-    """Reads the report again by tools/check_report, and works out the figures of the summary."""
+def read_again(record, run, prepared, corner):
+    """What tools/check_report says of the report, by all files that it can be given."""
+    drawn = [f"{run}/routed.def"] if record["command"] == "build" else [f"{prepared}/design.def", f"{prepared}/wires.def"]
+    words = [str(TOOLS / "check_report"), f"{run}/netlist", f"{run}/certificate", f"{run}/report", "--lef", f"{corner}/technology.lef",
+             "--bias", f"{corner}/bias", *(word for path in drawn for word in ("--def", path))]
+    done = subprocess.run(words, capture_output=True, text=True, errors="replace", check=False)
+    said = done.stdout.splitlines()[:1] if done.returncode == 0 else done.stderr.splitlines()[-1:]
+    return {"status": done.returncode, "line": "".join(said), "machine": machine()}
+
+
+def map_of(record, drops, run, prepared):
+    """The map, as tools/drop_map --html draws it."""
+    wiring = Routed(f"{run}/routed.def" if record["command"] == "build" else f"{prepared}/wires.def")
+    chip = Chip(drops.report, wiring, drops, f"{run}/netlist")
+    return Page(chip, wiring, heading(chip, wiring)).text()
+
+
+def no_map(why):
+    """A page in the place of a map."""
+    return f"<!doctype html><meta charset=utf-8><title>No map</title><p>No map: {html.escape(why)}\n"
+
+
+def show(run, prepared, corner, figures, out):
+    """Reads the report again by tools/check_report, works out the figures of the summary, and draws the map, or a page that says why there is none."""
     record = read_record(f"{run}/record.json")
+    page = no_map(f"{record['name']} has no certificate that was accepted.")
     if is_accepted(record):
-        drawn = [f"{run}/routed.def"] if record["command"] == "build" else [f"{prepared}/design.def", f"{prepared}/wires.def"]
-        words = [str(TOOLS / "check_report"), f"{run}/netlist", f"{run}/certificate", f"{run}/report", "--lef", f"{corner}/technology.lef",
-                 "--bias", f"{corner}/bias", *(word for path in drawn for word in ("--def", path))]
-        done = subprocess.run(words, capture_output=True, text=True, errors="replace", check=False)
-        said = done.stdout.splitlines()[:1] if done.returncode == 0 else done.stderr.splitlines()[-1:]
-        record["read_again"] = {"status": done.returncode, "line": "".join(said), "machine": machine()}
-        record["nets"] = figures_of(f"{run}/report", f"{run}/netlist")
-    write_record(out, record)
-
-
-def draw(run, prepared, out):
-    """The map of a run, or a page that says why there is none."""
-    record = read_record(f"{run}/record.json")
-    if not is_accepted(record):
-        Path(out).write_text(f"<!doctype html><meta charset=utf-8><title>No map</title><p>No map: {record['name']} has no certificate that was accepted.\n",
-                             encoding="utf-8")
-        return
-    drawn = f"{run}/routed.def" if record["command"] == "build" else f"{prepared}/wires.def"
-    done = subprocess.run([str(TOOLS / "drop_map"), f"{run}/report", drawn, "--html", out, "--netlist", f"{run}/netlist"], check=False)
-    if done.returncode:
-        raise Refused(out, None, "no map could be drawn")
+        record["read_again"] = read_again(record, run, prepared, corner)
+        report = Report(f"{run}/report")
+        drops = Drops(report, f"{run}/netlist")
+        record["nets"] = figures_of(report, drops)
+        try:
+            page = map_of(record, drops, run, prepared)
+        except Refused as why:
+            record["no_map"], page = str(why), no_map(str(why))
+    os.makedirs(os.path.dirname(out) or ".", exist_ok=True)
+    write_text(out, page)
+    write_record(figures, record)

@@ -36,8 +36,8 @@ class Failure(NamedTuple):
 class Summary:
     """All runs of a folder of results."""
 
-    def __init__(self, folder, blocks, corners):
-        self.folder, self.rows, self.failures, self.records = folder, [], [], []
+    def __init__(self, folder, blocks, corners, skipped=()):
+        self.folder, self.skipped, self.rows, self.failures, self.records = folder, skipped, [], [], []
         for block in blocks:
             for corner in corners:
                 self._take(block, corner)
@@ -68,6 +68,8 @@ class Summary:
         else:
             if read["status"] != 0:
                 self.failures.append(Failure(block, corner, f"tools/check_report on {read['machine']} ended with {read['status']}", read["line"], []))
+            if "no_map" in record:
+                self.failures.append(Failure(block, corner, "no map could be drawn", record["no_map"], []))
             self.rows += [Row(block, corner, net, record) for net in record["nets"]]
 
     def is_safe(self):

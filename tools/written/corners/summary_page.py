@@ -88,6 +88,7 @@ def page_of(summary, blocks, corners, name):
     groups = "".join(f"<h3>{escape(group[0].block)}: net {escape(group[0].net['net'])}, {group[0].net['nodes']} nodes</h3>"
                      + table(HEAD, TEXT_COLUMNS, [row_of(row) for row in group]) for group in summary.groups)
     told = f"{len(blocks)} blocks at {len(corners)} corners: {len(blocks) * len(corners)} runs, {len(summary.failures)} without a result or with a fault. "
+    told += "".join(f"{line[0].upper()}{line[1:]}. " for line in map(escape, summary.skipped))
     told += f"{len(summary.rows)} rows of nets, of which {unsafe} have a verdict other than SAFE."
     return f"""<!doctype html>
 <html lang="en"><head><meta charset="utf-8"><title>Sign-off at all corners</title><style>{STYLE}</style></head><body>

@@ -43,7 +43,7 @@ STATUSES = (
            "after a read nothing was made; after a write the outputs before the named one are whole"),
     Status("4", "A text is refused at one of its words, or is too long", "nothing was made or changed"),
     Status("5", "`build` and `signoff`: no grid is drawn or found, or no network extracted from it", "nothing was made or changed"),
-    Status("6", "The network passes a limit, or holds a node at two voltages", "nothing was made or changed"),
+    Status("6", "The network is larger or has greater numbers than the program takes, or holds a node at two voltages", "nothing was made or changed"),
     Status("7", "A node has no supply", "nothing was made or changed"),
     Status("9", "`check`: the certificate does not hold", "`check` writes nothing"),
     Status("10", "Memory ran out", "outputs may hold the first of the right texts, and nothing else"),

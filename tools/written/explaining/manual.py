@@ -16,7 +16,7 @@ EXAMPLES = {
 LAUNCHER = (
     ("--quiet", "Say nothing on standard error about an answer"),
     ("--explain", "Explain an answer or sum it up also where standard error is no terminal"),
-    ("--force", "Let an output be an input, a second output, a folder, a pipe or a device"),
+    ("--force", "Let an output be an input, a second output, standard output, a folder, a pipe or a device"),
 )
 GUIDE = "docs/GUIDE.md is the guide; docs/ANSWERS.md says what each answer means and what to do."
 BEGIN, END = "<!-- synopsis: made by tools/make_help -->", "<!-- end of the synopsis -->"

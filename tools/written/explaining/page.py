@@ -11,8 +11,8 @@ The cause that is named is the first in the order of the work: the texts in the 
 the drawing, the extraction and the network.
 """
 PARTS = (
-    ("Status 2: the words", "`pdn: Usage`. With `--explain` standard error says which word is at fault. Where `bin/pdn` ends with 2 and no line, an output is an input, a second output, a folder, a pipe "
-     "or a device, and standard error says which; `--force` lets it through.", answers.WORDS),
+    ("Status 2: the words", "`pdn: Usage`. With `--explain` standard error says which word is at fault. Where `bin/pdn` ends with 2 and no line, an output is an input, a second output, standard output, a folder, a "
+     "pipe or a device, and standard error says which; `--force` lets it through.", answers.WORDS),
     ("Status 3 and 4: files", "Where standard output could not be written, the status is 3 too, with no line or the beginning of one; the files that the command writes are then whole where it came so far.", answers.FILES),
     ("Status 4: a text is refused at a word", "`pdn: <file>:<line>:<word>: <Kind>`: open the file at that line and count the words; `explain` prints the line with a mark below the word.", answers.KINDS),
     ("Status 5: no grid is drawn or read", "In the order in which they are asked. A name is printed as it stands in its text.", answers.DRAWING),

@@ -79,7 +79,7 @@ take_given() {
   options=("${named[@]}")
 }
 
-# Ends with 2 where an output is an input or another output under another name, or no regular file.
+# Ends with 2 where an output is an input, another output or standard output under another name, or no regular file.
 guard_outputs() {
   local word option other value
   local -a options=() inputs=() outputs=()
@@ -91,6 +91,7 @@ guard_outputs() {
   for option in "${outputs[@]}"; do
     value=${given[$option]}
     is_unfit "$value" && refuse_output "$option $value is $REPLY and no regular file"
+    [ "$value" -ef /dev/stdout ] && refuse_output "$option $value is standard output, which takes the line of the answer"
     for other in "${inputs[@]}"; do
       is_one_file "$value" "${given[$other]}" && refuse_output "$option $value is the file of $other ${given[$other]}, which would be overwritten"
     done

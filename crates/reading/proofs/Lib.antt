@@ -9,6 +9,7 @@ pub mod Bits
 pub mod Standing
 pub mod Tables
 pub mod Stepping
+pub mod ValueStepping
 pub mod Loop
 pub mod One
 pub mod Taken

@@ -1,5 +1,5 @@
 -- The loop over the words of a text.
-use Rattle.std.proofs.Common.{◌≡◌, ℕ, zero, suc, ◌+◌, ◌<◌, ◌≤◌, true, false, inl, inr, List, [], ◌∷◌, ◌++◌, length, take, Option, Some, None, Result, Ok, Err, refl, sym, ◌∙◌, ap, subst, append_assoc, arith, length-append}
+use Rattle.std.proofs.Common.{◌≡◌, ℕ, zero, suc, ◌+◌, ◌^◌, ◌<◌, ◌≤◌, true, false, inl, inr, List, [], ◌∷◌, ◌++◌, length, take, Option, Some, None, Result, Ok, Err, refl, sym, ◌∙◌, ap, subst, append_assoc, arith, length-append}
 use Rattle.std.proofs.lemmas.List.{append-nil}
 use Rattle.outside.specs.declared.place.Place.{Place}
 use Rattle.text_lex.specs.declared.word.LexError.{LexError}
@@ -14,7 +14,7 @@ use Rattle.reading.specs.declared.refusal.Cause.TheVariants.{Lex, Fault}
 use Rattle.reading.specs.declared.refusal.Refusal.{Refusal}
 use Rattle.reading.specs.declared.refusal.Refusal.TheVariants as refusals
 use Rattle.reading.specs.Pattern.{joined}
-use Rattle.reading.specs.Reading.{Format, Text, IsOrderly, IsRefused, IsRead, IsEnding, GoesPast, EndsFirst}
+use Rattle.reading.specs.Reading.{Format, Text, Follows, IsOrderly, IsRefused, IsRead, IsEnding, GoesPast, EndsFirst}
 use Rattle.reading.specs.Word.{Token, token, place_in, end_at, next_on_line, end_after, ended_text}
 use Rattle.reading.specs.Source.{IsWhole, Steps}
 use Rattle.reading.specs.Reader.{Faulty, Takes}
@@ -349,3 +349,38 @@ end-gives f old new holds text end part word orderly held a e (Ok x) k =
     let r = end-reads f old new text end part word k.0 a e k.1 in (r.0, r.1, held r.0 [] r.2)
 end-gives f old new holds text end part word orderly held a e (Err refusal) k =
     end-refuses f old new text end part word k.0 refusal orderly a e k.1 k.2
+
+-- ## how many units there are
+
+units-few : {S K : Type 0} (f : Format Token S K) (before us : List (List Token)) → Follows f before us → length us ≤ length (joined us)
+units-few f before [] h = omega arith
+units-few f before (u ∷ us) h =
+    let some : 0 < length u = h.0 in
+    let more : length us ≤ length (joined us) = units-few f (before ++ u ∷ []) us h.2 in
+    let all = length-append u (joined us) in
+    omega arith
+
+-- Before a word there are fewer units than words.
+pub at-few : {S K : Type 0} (f : Format Token S K) (stands : List (List Token) → List Token → Type 0) (text rest after : Text Token) (part : List Token) (word : Word) →
+    (a : AtLoop f stands text rest part) → Steps rest (Ok (Some word)) after → length text.words ≤ 2 ^ 63 → length a.units ≤ 2 ^ 63
+at-few f stands text rest after part word a s bound =
+    let within : length a.front < length text.words = (loop-next f stands text rest after part word a s).within in
+    let parts : length a.front ≡ length (joined a.units ++ part) = ap length (parted f stands text rest part a) in
+    let few : length a.units ≤ length (joined a.units) = units-few f [] a.units a.sofar.run.whole in
+    let all = length-append (joined a.units) part in
+    omega arith
+
+-- Before the end too.
+pub end-few : {S K : Type 0} (f : Format Token S K) (stands : List (List Token) → List Token → Type 0) (text : Text Token) (end : Token) (part : List Token) →
+    (a : AtEnd f stands text end part) → length text.words ≤ 2 ^ 63 → length a.at.units ≤ 2 ^ 63
+end-few f stands text end part a bound =
+    let rest : Text Token = record { words = end ∷ []; refused = None } in
+    let parts : length a.at.front ≡ length (joined a.at.units ++ part) = ap length (parted f stands (ended_text (joined a.units)) rest part a.at) in
+    let few : length a.at.units ≤ length (joined a.at.units) = units-few f [] a.at.units a.at.sofar.run.whole in
+    let all = length-append (joined a.at.units) part in
+    let is : length (joined a.units ++ end_after (joined a.units) ∷ []) ≡ length (a.at.front ++ end ∷ []) = ap length a.at.is in
+    let left = length-append (joined a.units) (end_after (joined a.units) ∷ []) in
+    let right = length-append a.at.front (end ∷ []) in
+    let whole : length text.words ≡ length (joined a.units ++ a.ending.rest) = ap length a.ending.is in
+    let front = length-append (joined a.units) a.ending.rest in
+    omega arith

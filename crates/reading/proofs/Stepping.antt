@@ -168,7 +168,7 @@ pub fault-within : {S C K : Type 0} (number : S → ℕ) (all : List S) (pattern
 fault-within number all pattern f holds old new at rest units part w a words b e begins is =
     subst (λ z. a.at < length z) (sym e) (b.regular.orderly.near units (part ++ w ∷ []) a begins (subst (λ z. f.fault units z a) e is))
 
-open-not-end : {S C K : Type 0} (number : S → ℕ) (all : List S) (pattern : C → Pattern S) (f : Format Token S K) (holds : List (List Token) → Type 0)
+pub open-not-end : {S C K : Type 0} (number : S → ℕ) (all : List S) (pattern : C → Pattern S) (f : Format Token S K) (holds : List (List Token) → Type 0)
     (old new : List Node) (at rest : ℕ) (units : List (List Token)) (part : List Token) (w : Token) →
     Before number all pattern f holds old new at rest units part w → Begins (f.sort units) (f.follow units) (part ++ w ∷ []) →
     (Matches (f.sort units) (f.follow units) (part ++ w ∷ []) → ⊥) → w.form ≡ End → ⊥
@@ -211,7 +211,7 @@ step-open number all pattern f holds old new at rest units part w words b some n
       };
     }
 
-stands-start : {S C K : Type 0} (number : S → ℕ) (pattern : C → Pattern S) (f : Format Token S K) (holds : List (List Token) → Type 0) (nodes : List Node) (at : ℕ) (units : List (List Token)) →
+pub stands-start : {S C K : Type 0} (number : S → ℕ) (pattern : C → Pattern S) (f : Format Token S K) (holds : List (List Token) → Type 0) (nodes : List Node) (at : ℕ) (units : List (List Token)) →
     holds units → StartsAt number pattern f nodes at units → StandsAt number pattern f holds nodes at units []
 stands-start number pattern f holds nodes at units h s = record { held = h; section = s.0; follow = s.1; rest = s.2; fine = tt }
 

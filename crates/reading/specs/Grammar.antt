@@ -1,10 +1,11 @@
 -- What a format supplies.
-use Rattle.std.specs.Prelude.{◌≡◌, Bool, true, false, List, ◌⊎◌, [], ◌∷◌, ◌++◌, Option, Some, None}
+use Rattle.std.specs.Prelude.{◌≡◌, Bool, true, false, List, ◌⊎◌, [], ◌∷◌, ◌++◌, Option, Some, None, Result, Ok, Err}
 use Rattle.reading.specs.Pattern.{Pattern, Never, Matches}
 use Rattle.reading.specs.Tests.{solid, closes, comes_last, HasSamples}
 use Rattle.reading.specs.declared.word.Form.TheVariants.{End}
 use Rattle.reading.specs.Reading.{Format, IsOrderly, IsFine}
-use Rattle.reading.specs.Word.{Token}
+use Rattle.reading.specs.Word.{Token, heard_token}
+use Rattle.reading.specs.declared.word.Heard.{Heard}
 use Rattle.reading.specs.declared.refusal.Found.{Found}
 
 -- A pattern whose units end where their words say so: none begins another, and the end of the text is the last word.
@@ -42,3 +43,15 @@ pub record IsTaken {S K : Type 0} (f : Format Token S K) (units : List (List Tok
 abbrev pub Shows : {S K : Type 0} → Format Token S K → List (List Token) → List Token → Option (Found K) → Type 0
 Shows f units part None = IsFine f units part
 Shows f units part (Some a) = f.fault units part a
+
+-- After these words of the open unit each of the next ones says the value that was made of it.
+abbrev pub AreHeard : {V : Type 0} → (List Token → V → Type 0) → List Token → List (Heard V) → Type 0
+AreHeard says before [] = Unit {0}
+AreHeard says before (heard ∷ more) =
+    says (before ++ heard_token heard ∷ []) heard.value × AreHeard says (before ++ heard_token heard ∷ []) more
+
+-- What the last of the open unit's words so far says, where these words show no fault; or the fault that they show.
+abbrev pub Tells : {S K V : Type 0} → Format Token S K → (List Token → V → Type 0) → List (List Token) → List Token →
+    Result V (Found K) → Type 0
+Tells f says units part (Ok value) = IsFine f units part × says part value
+Tells f says units part (Err found) = f.fault units part found

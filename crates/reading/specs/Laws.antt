@@ -1,6 +1,6 @@
 -- What formats need for their laws: faults at the last word and at earlier ones, rules that are tested by a
 -- computation, blocks, and that a text has one record.
-use Rattle.std.proofs.Common.{◌≡◌, ℕ, zero, suc, ◌+◌, ◌<◌, ◌≤◌, ◌⊎◌, inl, inr, Bool, true, false, if◌then◌else◌, not, ◌&&◌, List, [], ◌∷◌, ◌++◌, length, slice_get, map, Option, Some, None, Result, Ok, Err, refl, sym, ◌∙◌, ap, subst, arith, length-append}
+use Rattle.std.proofs.Common.{◌≡◌, ℕ, zero, suc, ◌+◌, ◌<◌, ◌≤◌, ◌⊎◌, inl, inr, Bool, true, false, if◌then◌else◌, not, ◌&&◌, List, [], ◌∷◌, ◌++◌, length, get_or, slice_get, map, Option, Some, None, Result, Ok, Err, refl, sym, ◌∙◌, ap, subst, arith, length-append}
 use Rattle.std.proofs.lemmas.List.{append-nil}
 use Rattle.std.specs.Option.{unwrap_or}
 use Rattle.outside.specs.declared.place.Place.{Place}
@@ -14,11 +14,12 @@ use Rattle.reading.specs.Pattern.{Pattern}
 use Rattle.reading.specs.Pattern as patterns
 use Rattle.reading.specs.Rule.{listed_in, IsRule}
 use Rattle.reading.specs.Reading.{Format, Text, IsFine, IsOrderly}
-use Rattle.reading.specs.Word.{Token, seen_text}
+use Rattle.reading.specs.Word.{Token, heard_token, seen_text}
+use Rattle.reading.specs.declared.word.Heard.{Heard}
 use Rattle.reading.specs.Outcome.{IsReadAs, IsRefusedAt}
 use Rattle.reading.specs.Error.{Kinds, kind_of, ReadsRecord, Agree}
-use Rattle.reading.specs.Fault.{Finds, found_at}
-use Rattle.reading.specs.Grammar.{Shows}
+use Rattle.reading.specs.Fault.{Finds, found_at, FindsValue, told_at}
+use Rattle.reading.specs.Grammar.{Shows, AreHeard, Tells}
 use Rattle.reading.specs.Blocks.{Block, before_head, blocks, with_unit}
 
 -- A sort that stands in the list of all, which is that of the sorts of these words, is the sort of one of them.
@@ -239,6 +240,70 @@ pub show-at : {S K : Type 0} (f : Format Token S K) (units : List (List Token)) 
     (kind : Option K) → Finds shows kind → Shows f units part (found_at n kind)
 show-at f units part n shows there back None h = λ a k. h a.kind (there a k).1
 show-at f units part n shows there back (Some kind) h = back kind h
+
+-- What is found at a word is what the words tell, where all faults of these words stand there.
+pub tell-at : {S K V : Type 0} (f : Format Token S K) (tells : List Token → V → Type 0) (units : List (List Token))
+    (part : List Token) (n : ℕ) (shows : K → Type 0) (says : V → Type 0) →
+    ((a : Found K) → f.fault units part a → (a.at ≡ n) × shows a.kind) →
+    ((kind : K) → shows kind → f.fault units part (record { at = n; kind = kind })) →
+    ((value : V) → says value → tells part value) →
+    (told : Result V K) → FindsValue shows says told → Tells f tells units part (told_at n told)
+tell-at f tells units part n shows says there back value (Ok v) h = ((λ a k. h.0 a.kind (there a k).1), value v h.1)
+tell-at f tells units part n shows says there back value (Err kind) h = back kind h
+
+-- What a match on the words before tells: the same with the list that they are, where the answer is what is found at
+-- their end.
+pub tell-heard : {S K V : Type 0} (f : Format Token S K) (tells : List Token → V → Type 0) (units : List (List Token))
+    (before list : List (Heard V)) (word : Token) (n : ℕ) (shows : K → Type 0) (says : V → Type 0) (told : Result V K)
+    (result : Result V (Found K)) → before ≡ list → result ≡ told_at n told →
+    ((a : Found K) → f.fault units (map heard_token list ++ word ∷ []) a → (a.at ≡ n) × shows a.kind) →
+    ((kind : K) → shows kind →
+    f.fault units (map heard_token list ++ word ∷ []) (record { at = n; kind = kind })) →
+    ((value : V) → says value → tells (map heard_token list ++ word ∷ []) value) →
+    FindsValue shows says told → Tells f tells units (map heard_token before ++ word ∷ []) result
+tell-heard f tells units before list word n shows says told result e r there back value h =
+    subst (λ z. Tells f tells units (map heard_token z ++ word ∷ []) result) (sym e)
+    (subst (λ z. Tells f tells units (map heard_token list ++ word ∷ []) z) (sym r)
+    (tell-at f tells units (map heard_token list ++ word ∷ []) n shows says there back value told h))
+
+-- ## lists by their lengths, as a match on a slice gives them; the default is that of the slice's accesses
+
+pub no-items : {X : Type 0} (xs : List X) → length xs < 1 → xs ≡ []
+no-items [] h = refl
+no-items (x ∷ xs) h = absurd (omega arith)
+
+pub one-item : {X : Type 0} (d : X) (xs : List X) → 1 ≤ length xs → length xs < 2 → xs ≡ get_or xs 0 d ∷ []
+one-item d [] h k = absurd (omega arith)
+one-item d (x ∷ xs) h k = ap (λ z. x ∷ z) (no-items xs (omega arith))
+
+pub two-items : {X : Type 0} (d : X) (xs : List X) → 2 ≤ length xs → length xs < 3 → xs ≡ get_or xs 0 d ∷ get_or xs 1 d ∷ []
+two-items d [] h k = absurd (omega arith)
+two-items d (x ∷ xs) h k = ap (λ z. x ∷ z) (one-item d xs (omega arith) (omega arith))
+
+pub three-items : {X : Type 0} (d : X) (xs : List X) → 3 ≤ length xs → length xs < 4 →
+    xs ≡ get_or xs 0 d ∷ get_or xs 1 d ∷ get_or xs 2 d ∷ []
+three-items d [] h k = absurd (omega arith)
+three-items d (x ∷ xs) h k = ap (λ z. x ∷ z) (two-items d xs (omega arith) (omega arith))
+
+pub four-items : {X : Type 0} (d : X) (xs : List X) → 4 ≤ length xs → length xs < 5 →
+    xs ≡ get_or xs 0 d ∷ get_or xs 1 d ∷ get_or xs 2 d ∷ get_or xs 3 d ∷ []
+four-items d [] h k = absurd (omega arith)
+four-items d (x ∷ xs) h k = ap (λ z. x ∷ z) (three-items d xs (omega arith) (omega arith))
+
+pub five-items : {X : Type 0} (d : X) (xs : List X) → 5 ≤ length xs → length xs < 6 →
+    xs ≡ get_or xs 0 d ∷ get_or xs 1 d ∷ get_or xs 2 d ∷ get_or xs 3 d ∷ get_or xs 4 d ∷ []
+five-items d [] h k = absurd (omega arith)
+five-items d (x ∷ xs) h k = ap (λ z. x ∷ z) (four-items d xs (omega arith) (omega arith))
+
+pub six-items : {X : Type 0} (d : X) (xs : List X) → 6 ≤ length xs → length xs < 7 →
+    xs ≡ get_or xs 0 d ∷ get_or xs 1 d ∷ get_or xs 2 d ∷ get_or xs 3 d ∷ get_or xs 4 d ∷ get_or xs 5 d ∷ []
+six-items d [] h k = absurd (omega arith)
+six-items d (x ∷ xs) h k = ap (λ z. x ∷ z) (five-items d xs (omega arith) (omega arith))
+
+-- What is heard is said of each list that the words are.
+pub heard-as : {V : Type 0} (says : List Token → V → Type 0) (unit list : List (Heard V)) → unit ≡ list →
+    AreHeard says [] unit → AreHeard says [] list
+heard-as says unit list e h = subst (λ z. AreHeard says [] z) e h
 
 -- ## one record
 

@@ -3,6 +3,7 @@ use Rattle.std.specs.Prelude.{ℕ, ◌+◌, ◌-◌, ◌^◌, min, List, zero, s
 use Rattle.outside.specs.declared.place.Place.{Place}
 use Rattle.reading.specs.declared.word.Form.{Form}
 use Rattle.reading.specs.declared.word.Word.{Word}
+use Rattle.reading.specs.declared.word.Heard.{Heard}
 use Rattle.text_lex.specs.declared.word.LexError.{LexError}
 use Rattle.reading.specs.declared.word.Form.TheVariants.{End, Bare, Quoted, Braced, Break, Semicolon}
 use Rattle.text_lex.specs.declared.word.Form.{Form as SplitForm}
@@ -19,6 +20,10 @@ pub record Token : Type 0 where
 
 abbrev pub token : Word → Token
 token word = record { text = word.text.now; place = word.place; form = word.form }
+
+-- The word of which a format has made a value.
+abbrev pub heard_token : {V : Type 0} → Heard V → Token
+heard_token heard = token heard.word
 
 -- The place of the word that has n words before it, or of the one that is refused for itself after all of them.
 abbrev pub place_in : List Token → Option LexError → ℕ → Option Place

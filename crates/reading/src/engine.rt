@@ -180,7 +180,7 @@ fn empty_if(unit: &mut Vec<Word<'_>>, done: Step)
 }
 
 /// The end of a text, one word after the one at the place.
-fn end_after(place: Place) -> Word<'static>
+pub(crate) fn end_after(place: Place) -> Word<'static>
     ensures { token result ≡ end_at (next_on_line place) }
 {
     Word {

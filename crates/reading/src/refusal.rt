@@ -1,5 +1,5 @@
 ghost use Rattle.std.specs.Prelude.{◌≡◌};
-ghost use Rattle.reading.specs.Fault.{found_at};
+ghost use Rattle.reading.specs.Fault.{found_at, told_at};
 
 use outside::Place;
 use text_lex::LexKind;
@@ -40,5 +40,15 @@ pub fn found_at<K>(at: usize, kind: Option<K>) -> Option<Found<K>>
     match kind {
         Some(kind) => Some(Found { at, kind }),
         None => None,
+    }
+}
+
+/// What the word says that has so many words of its unit before it, or its fault of this kind.
+pub fn told_at<V: Copy, K>(at: usize, told: Result<V, K>) -> Result<V, Found<K>>
+    ensures { result ≡ told_at at told }
+{
+    match told {
+        Ok(value) => Ok(value),
+        Err(kind) => Err(Found { at, kind }),
     }
 }

@@ -1,5 +1,5 @@
 ghost use Rattle.std.specs.Prelude.{◌≡◌, [], map, Some, IfNone, IfSome};
-ghost use Rattle.reading.specs.Word.{token, last_of};
+ghost use Rattle.reading.specs.Word.{token, heard_token, last_of};
 
 use outside::Place;
 
@@ -31,10 +31,26 @@ pub struct Word<'a> {
     pub form: Form,
 }
 
+/// A word of the open unit, and what the format has made of it.
+#[derive(Clone, Copy, Debug)]
+pub struct Heard<'a, V> {
+    pub word: Word<'a>,
+    /// What the word says, as the number that it stands for.
+    pub value: V,
+}
+
 /// The last word of a unit.
 pub fn last_word<'a, 'b>(unit: &'b [Word<'a>]) -> Option<&'b Word<'a>>
     ensures none { IfNone result (map token unit.now ≡ []) }
     ensures some { IfSome result (λ word. last_of (map token unit.now) ≡ Some (token word.now)) }
+{
+    unit.last()
+}
+
+/// The last word of a unit, with what it says.
+pub fn last_heard<'a, 'b, V>(unit: &'b [Heard<'a, V>]) -> Option<&'b Heard<'a, V>>
+    ensures none { IfNone result (map heard_token unit.now ≡ []) }
+    ensures some { IfSome result (λ last. last_of (map heard_token unit.now) ≡ Some (heard_token last.now)) }
 {
     unit.last()
 }

@@ -6,8 +6,9 @@ use Rattle.reading.specs.Pattern.{Pattern}
 use Rattle.reading.specs.inside.Patterns.{Denotes}
 use Rattle.reading.specs.Reading.{Format}
 use Rattle.reading.specs.Word.{Token}
+use Rattle.reading.specs.declared.word.Heard.{Heard}
 use Rattle.reading.specs.inside.Left.{lefts}
-use Rattle.reading.specs.Grammar.{NoneShows}
+use Rattle.reading.specs.Grammar.{AreHeard, NoneShows}
 use Rattle.reading.specs.declared.stop.Step.{Step}
 use Rattle.reading.specs.declared.stop.Step.TheVariants.{Open, Whole}
 use Rattle.outside.specs.declared.place.Place.{Place}
@@ -22,6 +23,11 @@ abbrev pub StartsAt : {S C K : Type 0} → (S → ℕ) → (C → Pattern S) →
     List (List Token) → Type 0
 StartsAt {C = C} number pattern f nodes at units =
     (c : C) × (f.follow units ≡ pattern c) × Denotes number nodes at (pattern c)
+
+-- What the whole units lead to, and that each word of the open unit says the value that was made of it.
+abbrev pub HoldsHeard : {V : Type 0} → (List (List Token) → Type 0) → (List (List Token) → List Token → V → Type 0) →
+    List (Heard V) → List (List Token) → Type 0
+HoldsHeard holds says unit units = holds units × AreHeard (says units) [] unit
 
 -- Where the loop stands: what has been read of the whole units, and what is left of the open one's pattern.
 pub record StandsAt {S C K : Type 0} (number : S → ℕ) (pattern : C → Pattern S) (f : Format Token S K)

@@ -1,5 +1,5 @@
 -- Numbers that are refused, and ranges that fall.
-use Rattle.std.proofs.Common.{◌≡◌, ◌↔◌, IsTrue, Bool, List, ℕ, ℤ, ◌<ℤ◌, Result, Ok, Err, inl, inr, sym, ◌∙◌, ap, subst}
+use Rattle.std.proofs.Common.{◌≡◌, true, false, List, ℕ, ℤ, ◌<ℤ◌, ◌≤ℤ◌, Result, Ok, Err, inl, inr, refl, sym, ◌∙◌, ap, subst, arith}
 use Rattle.bias_file.specs.declared.error.BiasKind.{BiasKind}
 use Rattle.bias_file.specs.declared.sort.Sort.{Sort}
 use Rattle.bias_file.specs.declared.sort.Sort.TheVariants.{Supply, DropLimit, Pad, Cell, Instance}
@@ -9,6 +9,13 @@ use Rattle.number_place.specs.declared.place.NumberPlace.{NumberPlace}
 use Rattle.number_place.specs.declared.place.Refused.{Refused}
 use Rattle.number_place.specs.Place.{IsNumberAt}
 use Rattle.reading.specs.Word.{Token}
+use Rattle.reading.specs.Fault.{FindsValue}
+use Rattle.bias_file.specs.declared.value.Value.{Value}
+use Rattle.bias_file.specs.declared.error.BiasKind.TheVariants.{Falling}
+use Rattle.bias_file.specs.inside.Value.{SaysHigh, IsSmall, small_of}
+use Rattle.bias_file.specs.Rule.{is_number}
+use Rattle.bias_file.specs.Sort.{sort_of}
+use Rattle.std.proofs.lemmas.Int.{ints}
 
 -- There is only this answer.
 abbrev pub IsOnly : NumberPlace → List ℕ → Result ℤ Refused → Type 0
@@ -22,21 +29,6 @@ no_error r v h = cc
 
 pub none_refused : (place : NumberPlace) (text : List ℕ) (v : ℤ) → IsOnly place text (Ok v) → (kind : BiasKind) → NumberFault place text kind → ⊥
 none_refused place text v only kind h = no_error h.0 v (only (Err h.0) h.1)
-
--- The test of two values tells whether they fall.
-pub falls_told : (low high : List ℕ) (a b : ℤ) (less : Bool) → IsNumberAt amperes low (Ok a) → IsOnly amperes low (Ok a) → IsNumberAt amperes high (Ok b) → IsOnly amperes high (Ok b) →
-    IsTrue less ↔ (b <ℤ a) → IsTrue less ↔ Falls low high
-falls_told low high a b less is_a only_a is_b only_b tells = (
-  (λ h. (a, b, is_a, is_b, tells.0 h)),
-  (λ f. tells.1 (subst (λ z. z <ℤ a) (ok_is f.1 b (only_b (Ok f.1) f.3)) (subst (λ z. f.1 <ℤ z) (ok_is f.0 a (only_a (Ok f.0) f.2)) f.4))),
-)
-
--- A number that is refused does not fall.
-pub no_fall_low : (low high : List ℕ) (r : Refused) → IsOnly amperes low (Err r) → Falls low high → ⊥
-no_fall_low low high r only f = no_error r f.0 (sym (only (Ok f.0) f.2))
-
-pub no_fall_high : (low high : List ℕ) (r : Refused) → IsOnly amperes high (Err r) → Falls low high → ⊥
-no_fall_high low high r only f = no_error r f.1 (sym (only (Ok f.1) f.3))
 
 -- ## one kind
 
@@ -74,3 +66,37 @@ fourth_one one word third fourth k l h i = absurd h
 pub fifth_one : HasOne → (word : Sort) (text : List ℕ) (k l : BiasKind) → FifthFault word text k → FifthFault word text l → l ≡ k
 fifth_one one Pad text k l h i = number_one one micrometres text k l h i
 fifth_one one word text k l h i = absurd h
+
+-- ## ranges
+
+-- The word after the first number is the line's end: there is no second number.
+pub range_none : (low high : Token) (v : Value) → is_number (sort_of high) ≡ false → FindsValue (RangeFault low high) (SaysHigh low high) (Ok v)
+range_none low high v not_there =
+    ((λ kind h. absurd (let t : true ≡ false = sym h.0 ∙ not_there in cc)), (λ there. absurd (let t : true ≡ false = sym there ∙ not_there in cc)))
+
+pub range_falls : (low high : Token) (a b : ℤ) → is_number (sort_of high) ≡ true → IsNumberAt amperes low.text (Ok a) → IsNumberAt amperes high.text (Ok b) → b <ℤ a →
+    RangeFault low high Falling
+range_falls low high a b there is_a is_b lt =
+    let falls : Falls low.text high.text = (a, b, is_a, is_b, lt) in
+    (there, inr (refl, falls))
+
+pub range_refused : (low high : Token) (refused : Refused) → is_number (sort_of high) ≡ true → IsNumberAt amperes high.text (Err refused) → RangeFault low high (refused_kind refused)
+range_refused low high refused there is =
+    let fault : NumberFault amperes high.text (refused_kind refused) = (refused, is, refl) in
+    (there, inl fault)
+
+no_fall : (a b : ℤ) → a ≤ℤ b → b <ℤ a → ⊥
+no_fall a b le lt = omega (arith, ints)
+
+pub range_rises : HasOne → (low high : Token) (a : ℤ) (v : Value) → IsNumberAt amperes low.text (Ok a) → IsSmall amperes high.text v → a ≤ℤ small_of v →
+    FindsValue (RangeFault low high) (SaysHigh low high) (Ok v)
+range_rises one low high a v is_a is_b le = (
+  (λ kind h. elim h.1 [
+    | inl f ↦ no_error f.0 (small_of v) (one amperes high.text (Err f.0) (Ok (small_of v)) f.1 is_b)
+    | inr g ↦ (let falls = g.1 in
+        no_fall a (small_of v) le
+        (subst (λ z. z <ℤ a) (ok_is falls.1 (small_of v) (one amperes high.text (Ok falls.1) (Ok (small_of v)) falls.3 is_b))
+        (subst (λ z. falls.1 <ℤ z) (ok_is falls.0 a (one amperes low.text (Ok falls.0) (Ok a) falls.2 is_a)) falls.4)))
+  ]),
+  (λ there. (is_b, (λ least is. subst (λ z. z ≤ℤ small_of v) (ok_is a least (one amperes low.text (Ok a) (Ok least) is_a is)) le))),
+)

@@ -1,10 +1,9 @@
 -- One more line.
-use Rattle.std.proofs.Common.{◌≡◌, ◌↔◌, inl, inr, ◌<ℤ◌, ◌≤ℤ◌, IsTrue, ℕ, ◌<◌, ◌≤◌, ◌^◌, ◌==◌, Bool, true, false, ◌&&◌, List, [], ◌∷◌, ◌++◌, length, get_or, slice_get, Contains, ℤ, Result, Ok, Err, OnOk, Some, refl, sym, ◌∙◌, ap, subst, arith, to_z, of_z}
+use Rattle.std.proofs.Common.{◌≡◌, ◌↔◌, inl, inr, ◌≤ℤ◌, IsTrue, ℕ, ◌<◌, ◌≤◌, ◌^◌, ◌==◌, Bool, true, false, ◌&&◌, List, [], ◌∷◌, ◌++◌, length, slice_get, Contains, ℤ, Result, Ok, Err, OnOk, Some, refl, sym, ◌∙◌, ap, subst, arith, to_z, of_z}
 use Rattle.std.specs.Prelude.{unsigned_abs}
 use Rattle.std.specs.Int.{w64, w128}
 use Rattle.name_table.specs.Numbering.{TakesName}
-use Rattle.bias_file.specs.declared.error.BiasKind.{BiasKind}
-use Rattle.bias_file.specs.declared.error.BiasKind.TheVariants.{Twice, Falling}
+use Rattle.bias_file.specs.declared.error.BiasKind.TheVariants.{Twice}
 use Rattle.bias_file.specs.declared.sort.Sort.{Sort}
 use Rattle.bias_file.specs.declared.sort.Sort.TheVariants.{Supply, DropLimit, Pad, Cell, Instance}
 use Rattle.bias_file.specs.Sort.{sort_of, the, number_of, all_sorts, listed}
@@ -16,23 +15,26 @@ use Rattle.bias_file.specs.declared.section.Section.TheVariants.{LineStart, Rema
 use Rattle.bias_file.specs.declared.record.PadAt.{PadAt}
 use Rattle.bias_file.specs.declared.record.Amps.{Amps}
 use Rattle.bias_file.specs.Section.{section_of, section_after}
-use Rattle.bias_file.specs.Fault.{names_of, NumberFault, ValueFault, RangeFault, FourthFault}
-use Rattle.std.proofs.lemmas.Int.{ints, to_z-of_z, fits_signed_from_abs}
+use Rattle.bias_file.specs.Fault.{names_of}
+use Rattle.std.proofs.lemmas.Int.{to_z-of_z, fits_signed_from_abs}
 use Rattle.bias_file.specs.Format.{format}
 use Rattle.bias_file.specs.declared.held.NetVolts.{NetVolts}
 use Rattle.bias_file.specs.declared.held.NameAmps.{NameAmps}
-use Rattle.bias_file.specs.inside.Held.{HoldsLines, Takes, FindsVolts, ShowsNone, FindsAmps}
+use Rattle.bias_file.specs.declared.value.Value.{Value}
+use Rattle.bias_file.specs.declared.value.Value.TheVariants.{Line}
+use Rattle.bias_file.specs.inside.Held.{HoldsLines, Takes, FindsVolts, FindsAmps}
+use Rattle.bias_file.specs.inside.Value.{IsSmall, SaysThird, SaysHigh, SaysFourth, line_of, small_of, says}
 use Rattle.named_entries.specs.Named.{NamedList}
 use Rattle.std.specs.declared.alloc.AllocError.{AllocError}
 use Rattle.named_entries.specs.Laws.{named-added, named-kept}
 use Rattle.number_place.specs.declared.place.NumberPlace.{NumberPlace}
 use Rattle.number_place.specs.Place.{IsNumberAt}
-use Rattle.reading.specs.Grammar.{NoneShows, IsTaken}
+use Rattle.reading.specs.Grammar.{AreHeard, IsTaken}
 use Rattle.reading.specs.Pattern.{Pattern, One, Then, Or, Matches}
 use Rattle.reading.specs.Reading.{IsFine}
-use Rattle.reading.specs.declared.word.Word.{Word}
+use Rattle.reading.specs.declared.word.Heard.{Heard}
 use Rattle.reading.specs.declared.word.Form.TheVariants.{Bare}
-use Rattle.reading.specs.Word.{Token}
+use Rattle.reading.specs.Word.{Token, heard_token}
 
 pub stands_by : (word this : Sort) (units : List (List Token)) (names : List (List ℕ)) (name : List ℕ) (there : Bool) → word ≡ this → has_value this ≡ true →
     names ≡ names_of this units → IsTrue there ↔ Contains names name → IsTrue there ↔ ((has_value word ≡ true) × Contains (names_of word units) name)
@@ -43,45 +45,15 @@ stands_by word this units names name there e value same tells = (
 
 -- ## units by the number of their words
 
-abbrev pub no_word : Word
-no_word = record { text = record { ref_ptr = (0, 0); now = [] }; place = record { line = 0; word = 0 }; form = Bare }
-
-zero_words : (xs : List Word) → length xs < 1 → xs ≡ []
-zero_words [] h = refl
-zero_words (x ∷ xs) h = absurd (omega arith)
-
-one_word : (xs : List Word) → 1 ≤ length xs → length xs < 2 → xs ≡ get_or xs 0 no_word ∷ []
-one_word [] h k = absurd (omega arith)
-one_word (x ∷ xs) h k = ap (λ z. x ∷ z) (zero_words xs (omega arith))
-
-pub two_words : (xs : List Word) → 2 ≤ length xs → length xs < 3 → xs ≡ get_or xs 0 no_word ∷ get_or xs 1 no_word ∷ []
-two_words [] h k = absurd (omega arith)
-two_words (x ∷ xs) h k = ap (λ z. x ∷ z) (one_word xs (omega arith) (omega arith))
-
-three_words : (xs : List Word) → 3 ≤ length xs → length xs < 4 → xs ≡ get_or xs 0 no_word ∷ get_or xs 1 no_word ∷ get_or xs 2 no_word ∷ []
-three_words [] h k = absurd (omega arith)
-three_words (x ∷ xs) h k = ap (λ z. x ∷ z) (two_words xs (omega arith) (omega arith))
-
-pub four_words : (xs : List Word) → 4 ≤ length xs → length xs < 5 → xs ≡ get_or xs 0 no_word ∷ get_or xs 1 no_word ∷ get_or xs 2 no_word ∷ get_or xs 3 no_word ∷ []
-four_words [] h k = absurd (omega arith)
-four_words (x ∷ xs) h k = ap (λ z. x ∷ z) (three_words xs (omega arith) (omega arith))
-
-pub five_words : (xs : List Word) → 5 ≤ length xs → length xs < 6 →
-    xs ≡ get_or xs 0 no_word ∷ get_or xs 1 no_word ∷ get_or xs 2 no_word ∷ get_or xs 3 no_word ∷ get_or xs 4 no_word ∷ []
-five_words [] h k = absurd (omega arith)
-five_words (x ∷ xs) h k = ap (λ z. x ∷ z) (four_words xs (omega arith) (omega arith))
-
-pub six_words : (xs : List Word) → 6 ≤ length xs → length xs < 7 →
-    xs ≡ get_or xs 0 no_word ∷ get_or xs 1 no_word ∷ get_or xs 2 no_word ∷ get_or xs 3 no_word ∷ get_or xs 4 no_word ∷ get_or xs 5 no_word ∷ []
-six_words [] h k = absurd (omega arith)
-six_words (x ∷ xs) h k = ap (λ z. x ∷ z) (five_words xs (omega arith) (omega arith))
+abbrev pub no_word : Heard Value
+no_word = record { word = record { text = record { ref_ptr = (0, 0); now = [] }; place = record { line = 0; word = 0 }; form = Bare }; value = Line Supply }
 
 -- ## one more line
 
 fresh : (word : Sort) (units : List (List Token)) (first name : Token) (words : List Token) → sort_of first ≡ word → has_value word ≡ true →
-    NoneShows format units [] (first ∷ name ∷ words) → Contains (names_of word units) name.text → ⊥
-fresh word units first name words e value fine there =
-    fine.1.0 (record { at = 1; kind = Twice }) (refl, (refl, ap has_value e ∙ value, subst (λ z. Contains (names_of z units) name.text) (sym e) there))
+    IsTaken format units (first ∷ name ∷ words) → Contains (names_of word units) name.text → ⊥
+fresh word units first name words e value taken there =
+    taken.fine.1.0 (record { at = 1; kind = Twice }) (refl, (refl, ap has_value e ∙ value, subst (λ z. Contains (names_of z units) name.text) (sym e) there))
 
 -- A line that says an entry is taken with it.
 pub line_taken : {E : Type 0} (says : List Token → E → Type 0) (word : Sort) (old new : NamedList E) (first name : Token) (words : List Token) (entry : E) (r : Result (Unit {0}) AllocError) →
@@ -91,7 +63,12 @@ pub line_taken : {E : Type 0} (says : List Token → E → Type 0) (word : Sort)
     OnOk r (Takes (HoldsLines says word old) (HoldsLines says word new) (first ∷ name ∷ words))
 line_taken says word old new first name words entry (Err x) e value is s taken entries = tt
 line_taken says word old new first name words entry (Ok x) e value is s taken entries = λ units t h.
-    named-added says name_on (is_line word) units (first ∷ name ∷ words) old new entry is h (fresh word units first name words e value t.fine) (s units t) taken entries
+    named-added says name_on (is_line word) units (first ∷ name ∷ words) old new entry is h (fresh word units first name words e value t) (s units t) taken entries
+
+-- What follows from what is heard, where all went well.
+pub on_heard : (A B : Type 0) (r : Result (Unit {0}) AllocError) → (A → OnOk r B) → OnOk r (A → B)
+on_heard A B (Err x) h = tt
+on_heard A B (Ok x) h = h
 
 -- A unit that is no line with this first word leaves what is held.
 pub line_kept : {E : Type 0} (says : List Token → E → Type 0) (word : Sort) (named : NamedList E) (unit : List Token) → is_line word unit ≡ false →
@@ -182,34 +159,31 @@ has_second false c h = absurd (let t : false ≡ true = h in cc)
 
 -- A line of volts is taken with the entry that is made of it.
 pub volts_taken : {E : Type 0} (says : List Token → E → Type 0) (make : ℕ → List ℕ → ℤ → E) (word : Sort) (place : NumberPlace) (old new : NamedList E) (unit : List Token) (found : NetVolts) (name : List ℕ) (r : Result (Unit {0}) AllocError) →
-    place.limit ≤ 10 ^ 37 → has_value word ≡ true → ((text : List ℕ) (kind : BiasKind) → NumberFault place text kind → ValueFault word text kind) → FindsVolts word place unit (Some found) →
+    place.limit ≤ 10 ^ 37 → has_value word ≡ true → FindsVolts word place unit (Some found) →
     ((first net value stop : Token) (v : ℤ) → IsNumberAt place value.text (Ok v) → says (first ∷ net ∷ value ∷ stop ∷ []) (make first.place.line net.text v)) →
     name ≡ found.net.now → OnOk r (TakesName old.names new.names found.net.now) →
     OnOk r (new.entries ≡ old.entries ++ make found.line name (to_z w128 (of_z w128 found.volts)) ∷ []) →
     OnOk r (Takes (HoldsLines says word old) (HoldsLines says word new) unit)
-volts_taken says make word place old new (first ∷ net ∷ value ∷ stop ∷ []) found name r limit gives faults h said e taken entries =
+volts_taken says make word place old new (first ∷ net ∷ value ∷ stop ∷ []) found name r limit gives h said e taken entries =
     let kept = to_z w128 (of_z w128 found.volts) in
-    let begun : sort_of first ≡ word = begun_with word _ (has_second _ _ h.0) in
-    let is = λ (units : List (List Token)) (t : IsTaken format units (first ∷ net ∷ value ∷ stop ∷ [])).
-    h.1.2 (λ kind n. t.fine.1.1.0 (record { at = 2; kind = kind }) (refl, subst (λ z. ValueFault z value.text kind) (sym begun) (faults value.text kind n))) in
-    let made = λ (v : IsNumberAt place value.text (Ok found.volts)). ap (λ z. make z name kept) h.1.0 ∙ ap (λ z. make first.place.line z kept) (e ∙ h.1.1)
-    ∙ ap (λ z. make first.place.line net.text z) (number_kept place value.text found.volts limit v) in
-    line_taken says word old new first net (value ∷ stop ∷ []) (make found.line name kept) r begun gives h.0
-    (λ units t. subst (λ z. says (first ∷ net ∷ value ∷ stop ∷ []) z) (sym (made (is units t))) (said first net value stop found.volts (is units t)))
+    let made = ap (λ z. make z name kept) h.1.0 ∙ ap (λ z. make first.place.line z kept) (e ∙ h.1.1)
+    ∙ ap (λ z. make first.place.line net.text z) (number_kept place value.text found.volts limit h.1.2) in
+    line_taken says word old new first net (value ∷ stop ∷ []) (make found.line name kept) r (begun_with word _ (has_second _ _ h.0)) gives h.0
+    (λ units t. subst (λ z. says (first ∷ net ∷ value ∷ stop ∷ []) z) (sym made) (said first net value stop found.volts h.1.2))
     (subst (λ z. OnOk r (TakesName old.names new.names z)) h.1.1 taken) entries
-volts_taken says make word place old new unit found name r limit gives faults h said e taken entries = absurd h.1
+volts_taken says make word place old new unit found name r limit gives h said e taken entries = absurd h.1
 
 -- ## lines of currents
 
-range_faults : (word : Sort) → has_range word ≡ true → (text : List ℕ) (kind : BiasKind) → NumberFault amperes text kind → ValueFault word text kind
-range_faults Cell h text kind n = n
-range_faults Instance h text kind n = n
-range_faults word h text kind n = absurd (let t : false ≡ true = h in cc)
+third_current : (word : Sort) (text : List ℕ) (value : Value) → has_range word ≡ true → SaysThird word text value → IsSmall amperes text value
+third_current Cell text value h k = k
+third_current Instance text value h k = k
+third_current word text value h k = absurd (let t : false ≡ true = h in cc)
 
-falls_faults : (word : Sort) → has_range word ≡ true → (low high : Token) (kind : BiasKind) → RangeFault low high kind → FourthFault word low high kind
-falls_faults Cell h low high kind n = n
-falls_faults Instance h low high kind n = n
-falls_faults word h low high kind n = absurd (let t : false ≡ true = h in cc)
+fourth_current : (word : Sort) (third fourth : Token) (value : Value) → has_range word ≡ true → SaysFourth word third fourth value → SaysHigh third fourth value
+fourth_current Cell third fourth value h k = k
+fourth_current Instance third fourth value h k = k
+fourth_current word third fourth value h k = absurd (let t : false ≡ true = h in cc)
 
 peel : (class : Sort → Bool) (p : Pattern Sort) (a : Token) (words : List Token) → Matches sort_of (Then (One class) p) (a ∷ words) → (class (sort_of a) ≡ true) × Matches sort_of p words
 peel class p a words h =
@@ -269,37 +243,33 @@ fourth_number LineStart a b c d e h = elim h [
 fourth_number Remark a b c d e h = absurd (not_one is_any a b (c ∷ d ∷ e ∷ []) h)
 fourth_number Nothing a b c d e h = absurd h
 
-not_below : (a b : ℤ) → (b <ℤ a → ⊥) → a ≤ℤ b
-not_below a b h = grind (arith, ints)
-
 -- What is found of a line with one current, and of one with two.
-pub current_found : (word : Sort) (first name value stop : Token) (found : NameAmps) → has_range word ≡ true → the word (sort_of first) ≡ true →
-    found.line ≡ first.place.line → found.name.now ≡ name.text → (ShowsNone amperes value.text → IsNumberAt amperes value.text (Ok found.low)) → found.high ≡ found.low →
-    FindsAmps word (first ∷ name ∷ value ∷ stop ∷ []) (Some found)
-current_found word first name value stop found range is line named low high =
-    let begun : sort_of first ≡ word = begun_with word _ is in (
-      has_both _ _ (range_value word range) is,
+pub current_found : (word : Sort) (a b c d : Heard Value) (found : NameAmps) → has_range word ≡ true → the word (line_of a.value) ≡ true →
+    found.line ≡ a.word.place.line → found.name.now ≡ b.word.text.now → (unsigned_abs (small_of c.value) ≤ 10 ^ 18 → found.low ≡ small_of c.value) → found.high ≡ found.low →
+    AreHeard says [] (a ∷ b ∷ c ∷ d ∷ []) → FindsAmps word (heard_token a ∷ heard_token b ∷ heard_token c ∷ heard_token d ∷ []) (Some found)
+current_found word a b c d found range is line named kept high heard =
+    let begun : sort_of (heard_token a) ≡ word = sym heard.0 ∙ begun_with word _ is in
+    let said = third_current word c.word.text.now c.value range (subst (λ z. SaysThird z c.word.text.now c.value) begun heard.1.1.0) in (
+      has_both _ _ (range_value word range) (ap (the word) (sym heard.0) ∙ is),
       (line, named),
-      λ units t. (
-        low (λ kind n. t.fine.1.1.0 (record { at = 2; kind = kind }) (refl, subst (λ z. ValueFault z value.text kind) (sym begun) (range_faults word range value.text kind n))),
-        high,
-      ),
+      λ units t. (subst (λ z. IsNumberAt amperes c.word.text.now (Ok z)) (sym (kept said.1.2.within)) said, high),
     )
 
-pub range_found : (word : Sort) (first name low high stop : Token) (found : NameAmps) → has_range word ≡ true → the word (sort_of first) ≡ true →
-    found.line ≡ first.place.line → found.name.now ≡ name.text → (ShowsNone amperes low.text → IsNumberAt amperes low.text (Ok found.low)) →
-    (ShowsNone amperes high.text → IsNumberAt amperes high.text (Ok found.high)) → FindsAmps word (first ∷ name ∷ low ∷ high ∷ stop ∷ []) (Some found)
-range_found word first name low high stop found range is line named least_at greatest_at =
-    let begun : sort_of first ≡ word = begun_with word _ is in (
-      has_both _ _ range is,
+pub range_found : (word : Sort) (a b c d e : Heard Value) (found : NameAmps) → has_range word ≡ true → the word (line_of a.value) ≡ true →
+    found.line ≡ a.word.place.line → found.name.now ≡ b.word.text.now → (unsigned_abs (small_of c.value) ≤ 10 ^ 18 → found.low ≡ small_of c.value) →
+    (unsigned_abs (small_of d.value) ≤ 10 ^ 18 → found.high ≡ small_of d.value) → AreHeard says [] (a ∷ b ∷ c ∷ d ∷ e ∷ []) →
+    FindsAmps word (heard_token a ∷ heard_token b ∷ heard_token c ∷ heard_token d ∷ heard_token e ∷ []) (Some found)
+range_found word a b c d e found range is line named low_kept high_kept heard =
+    let begun : sort_of (heard_token a) ≡ word = sym heard.0 ∙ begun_with word _ is in
+    let low = third_current word c.word.text.now c.value range (subst (λ z. SaysThird z c.word.text.now c.value) begun heard.1.1.0) in
+    let least = subst (λ z. IsNumberAt amperes c.word.text.now (Ok z)) (sym (low_kept low.1.2.within)) low in
+    let second = fourth_current word (heard_token c) (heard_token d) d.value range (subst (λ z. SaysFourth z (heard_token c) (heard_token d) d.value) begun heard.1.1.1.0) in (
+      has_both _ _ range (ap (the word) (sym heard.0) ∙ is),
       (line, named),
       λ units t.
-          let stands = fourth_number (section_of units) first name low high stop t.matches in
-          let none = λ (kind : BiasKind) (n : RangeFault low high kind). t.fine.1.1.1.0 (record { at = 3; kind = kind }) (refl, subst (λ z. FourthFault z low high kind) (sym begun) (falls_faults word range low high kind n)) in
-          let least : IsNumberAt amperes low.text (Ok found.low) =
-          least_at (λ kind n. t.fine.1.1.0 (record { at = 2; kind = kind }) (refl, subst (λ z. ValueFault z low.text kind) (sym begun) (range_faults word range low.text kind n))) in
-          let greatest : IsNumberAt amperes high.text (Ok found.high) = greatest_at (λ kind n. none kind (stands, inl n)) in
-          (least, greatest, not_below found.low found.high (λ below. none Falling (stands, inr (refl, (found.low, found.high, least, greatest, below))))),
+          let high = second (fourth_number (section_of units) (heard_token a) (heard_token b) (heard_token c) (heard_token d) (heard_token e) t.matches) in
+          let same = high_kept high.0.1.2.within in
+          (least, subst (λ z. IsNumberAt amperes d.word.text.now (Ok z)) (sym same) high.0, subst (λ z. found.low ≤ℤ z) (sym same) (high.1 found.low least)),
     )
 
 -- A line of a current is taken with the entry that is made of it.
@@ -355,3 +325,12 @@ long_fine units (a ∷ b ∷ []) h = absurd (omega arith)
 long_fine units (a ∷ b ∷ c ∷ []) h = absurd (omega arith)
 long_fine units (a ∷ b ∷ c ∷ d ∷ []) h = absurd (omega arith)
 long_fine units (a ∷ b ∷ c ∷ d ∷ e ∷ []) h = absurd (omega arith)
+
+pub long_said : (part : List Token) (value : Value) → 6 ≤ length part → says part value
+long_said (a ∷ b ∷ c ∷ d ∷ e ∷ f ∷ part) value h = tt
+long_said [] value h = absurd (omega arith)
+long_said (a ∷ []) value h = absurd (omega arith)
+long_said (a ∷ b ∷ []) value h = absurd (omega arith)
+long_said (a ∷ b ∷ c ∷ []) value h = absurd (omega arith)
+long_said (a ∷ b ∷ c ∷ d ∷ []) value h = absurd (omega arith)
+long_said (a ∷ b ∷ c ∷ d ∷ e ∷ []) value h = absurd (omega arith)

@@ -1,18 +1,21 @@
-//! The faults that the words of a line show.
-ghost use Rattle.std.specs.Prelude.{◌≡◌, ◌↔◌, ◌<ℤ◌, true, List, IsTrue, Contains};
-ghost use Rattle.bias_file.specs.Fault.{refused_kind, NumberFault, ValueFault, RangeFault, FourthFault, FifthFault, Falls, names_of, NameFault};
+//! What the words of a line say, and the faults that they show.
+ghost use Rattle.std.specs.Prelude.{◌≡◌, ◌<◌, ◌^◌, ◌↔◌, true, List, IsTrue, Contains, Ok};
+ghost use Rattle.bias_file.specs.Fault.{refused_kind, NumberFault, ValueFault, RangeFault, FourthFault, FifthFault, names_of, NameFault};
 ghost use Rattle.bias_file.specs.Rule.{has_value, is_number as number_sort};
-ghost use Rattle.bias_file.specs.Number.{amperes};
+ghost use Rattle.bias_file.specs.Sort.{sort_of};
 ghost use Rattle.bias_file.specs.inside.Held.{HoldsLists};
+ghost use Rattle.bias_file.specs.inside.Value.{IsWide, IsSmall, SaysThird, SaysHigh, SaysFourth, SaysFifth};
 ghost use Rattle.number_place.specs.Place.{CanRead, IsNumberAt};
-ghost use Rattle.reading.specs.Fault.{Finds};
+ghost use Rattle.bias_file.specs.Number.{amperes};
+ghost use Rattle.reading.specs.Fault.{FindsValue};
 ghost use Rattle.reading.specs.Word.{Token, token};
 
 use crate::error::BiasKind;
 use crate::held::Lists;
 use crate::number::{AMPERES, DROP_VOLTS, MICROMETRES, VOLTS};
-use crate::sort::{Sort, sort_of};
-use number_place::{NumberPlace, Refused, number_at};
+use crate::sort::Sort;
+use crate::value::Value;
+use number_place::{NumberPlace, Refused, number_at, small_number_at, texts_have_one_number};
 use reading::Word;
 
 /// The kind of a number that is refused.
@@ -25,27 +28,39 @@ fn refused_kind(refused: Refused) -> BiasKind
     }
 }
 
-/// Why the text is refused in the place.
-fn number_fault(place: NumberPlace, text: &[u8]) -> Option<BiasKind>
+/// Volts in the place, or why the text is refused there.
+fn wide_at(place: NumberPlace, text: &[u8]) -> Result<Value, BiasKind>
     requires { CanRead place }
-    ensures { Finds (NumberFault place text.now) result }
+    ensures { FindsValue (NumberFault place text.now) (IsWide place text.now) result }
 {
     match number_at(place, text) {
-        Ok(_) => None,
-        Err(refused) => Some(refused_kind(refused)),
+        Ok(value) => Ok(Value::Wide(value)),
+        Err(refused) => Err(refused_kind(refused)),
     }
 }
 
-/// Why the first number after the name is refused on a line with this first word.
-pub(crate) fn value_fault(word: Sort, text: &[u8]) -> Option<BiasKind>
-    ensures { Finds (ValueFault word text.now) result }
+/// Amperes or a length in the place, or why the text is refused there.
+fn small_at(place: NumberPlace, text: &[u8]) -> Result<Value, BiasKind>
+    requires place { CanRead place }
+    requires small { place.limit < 2 ^ 63 }
+    ensures { FindsValue (NumberFault place text.now) (IsSmall place text.now) result }
 {
-    match word {
-        Sort::Supply => number_fault(VOLTS, text),
-        Sort::DropLimit => number_fault(DROP_VOLTS, text),
-        Sort::Cell => number_fault(AMPERES, text),
-        Sort::Instance => number_fault(AMPERES, text),
-        _ => None,
+    match small_number_at(place, text) {
+        Ok(value) => Ok(Value::Small(value)),
+        Err(refused) => Err(refused_kind(refused)),
+    }
+}
+
+/// What the first number after the name says on a line with this first word.
+pub(crate) fn third_value(line: Sort, text: &[u8]) -> Result<Value, BiasKind>
+    ensures { FindsValue (ValueFault line text.now) (SaysThird line text.now) result }
+{
+    match line {
+        Sort::Supply => wide_at(VOLTS, text),
+        Sort::DropLimit => wide_at(DROP_VOLTS, text),
+        Sort::Cell => small_at(AMPERES, text),
+        Sort::Instance => small_at(AMPERES, text),
+        _ => Ok(Value::Nothing),
     }
 }
 
@@ -59,58 +74,51 @@ fn is_number(sort: Sort) -> bool
     }
 }
 
-fn is_less(a: i128, b: i128) -> bool
-    ensures { IsTrue result ↔ (a <ℤ b) }
+/// The second number of a range, whose first number is this, or why it is refused.
+fn range_value(least: i64, high: &Word<'_>, sort: Sort) -> Result<Value, BiasKind>
+    ensures { (low : Token) → sort ≡ sort_of (token high.now) → IsNumberAt amperes low.text (Ok least) →
+        FindsValue (RangeFault low (token high.now)) (SaysHigh low (token high.now)) result }
 {
-    a < b
-}
-
-/// Whether the second number is below the first.
-fn falls(low: &[u8], high: &[u8]) -> bool
-    ensures { IsTrue result ↔ Falls low.now high.now }
-{
-    match (number_at(AMPERES, low), number_at(AMPERES, high)) {
-        (Ok(a), Ok(b)) => is_less(b, a),
-        _ => false,
+    texts_have_one_number();
+    if !is_number(sort) {
+        return Ok(Value::Nothing);
+    }
+    match small_number_at(AMPERES, high.text) {
+        Ok(greatest) => {
+            if greatest < least {
+                return Err(BiasKind::Falling);
+            }
+            Ok(Value::Small(greatest))
+        }
+        Err(refused) => Err(refused_kind(refused)),
     }
 }
 
-/// Why the second number of a range is refused.
-fn range_fault(low: &Word<'_>, high: &Word<'_>) -> Option<BiasKind>
-    ensures { Finds (RangeFault (token low.now) (token high.now)) result }
+/// What the fourth word says on a line with this first word, whose third word says this.
+pub(crate) fn fourth_value(
+    line: Sort,
+    third: Value,
+    fourth: &Word<'_>,
+    sort: Sort,
+) -> Result<Value, BiasKind>
+    ensures { (word : Token) → sort ≡ sort_of (token fourth.now) → SaysThird line word.text third →
+        FindsValue (FourthFault line word (token fourth.now)) (SaysFourth line word (token fourth.now)) result }
 {
-    if !is_number(sort_of(high)) {
-        return None;
-    }
-    if let Some(kind) = number_fault(AMPERES, high.text) {
-        return Some(kind);
-    }
-    if falls(low.text, high.text) {
-        Some(BiasKind::Falling)
-    } else {
-        None
+    match line {
+        Sort::Cell => range_value(third.small(), fourth, sort),
+        Sort::Instance => range_value(third.small(), fourth, sort),
+        Sort::Pad => small_at(MICROMETRES, fourth.text),
+        _ => Ok(Value::Nothing),
     }
 }
 
-/// Why the fourth word is refused on a line with this first word.
-pub(crate) fn fourth_fault(word: Sort, third: &Word<'_>, fourth: &Word<'_>) -> Option<BiasKind>
-    ensures { Finds (FourthFault word (token third.now) (token fourth.now)) result }
+/// What the fifth word says on a line with this first word.
+pub(crate) fn fifth_value(line: Sort, text: &[u8]) -> Result<Value, BiasKind>
+    ensures { FindsValue (FifthFault line text.now) (SaysFifth line text.now) result }
 {
-    match word {
-        Sort::Cell => range_fault(third, fourth),
-        Sort::Instance => range_fault(third, fourth),
-        Sort::Pad => number_fault(MICROMETRES, fourth.text),
-        _ => None,
-    }
-}
-
-/// Why the fifth word is refused on a line with this first word.
-pub(crate) fn fifth_fault(word: Sort, text: &[u8]) -> Option<BiasKind>
-    ensures { Finds (FifthFault word text.now) result }
-{
-    match word {
-        Sort::Pad => number_fault(MICROMETRES, text),
-        _ => None,
+    match line {
+        Sort::Pad => small_at(MICROMETRES, text),
+        _ => Ok(Value::Nothing),
     }
 }
 
@@ -128,12 +136,17 @@ fn stands_again<'a>(lists: &Lists<'a>, word: Sort, name: &'a [u8]) -> bool
     }
 }
 
-/// Why the name is refused on a line with this first word.
-pub(crate) fn name_fault<'a>(lists: &Lists<'a>, word: Sort, name: &'a [u8]) -> Option<BiasKind>
-    ensures { (units : List (List Token)) → HoldsLists units lists.now → Finds (NameFault units word name.now) result }
+/// What the name says on a line with this first word: nothing, where it does not stand again.
+pub(crate) fn name_value<'a>(
+    lists: &Lists<'a>,
+    line: Sort,
+    text: &'a [u8],
+) -> Result<Value, BiasKind>
+    ensures { (units : List (List Token)) → HoldsLists units lists.now →
+        FindsValue (NameFault units line text.now) (λ value. Unit {0}) result }
 {
-    if stands_again(lists, word, name) {
-        return Some(BiasKind::Twice);
+    if stands_again(lists, line, text) {
+        return Err(BiasKind::Twice);
     }
-    None
+    Ok(Value::Nothing)
 }

@@ -4,22 +4,24 @@ ghost use Rattle.bias_file.specs.Rule.{pattern};
 ghost use Rattle.bias_file.specs.Format.{format};
 ghost use Rattle.bias_file.specs.Sort.{all_sorts};
 ghost use Rattle.bias_file.specs.inside.Held.{Holds};
+ghost use Rattle.bias_file.specs.inside.Value.{says};
 ghost use Rattle.reading.specs.Grammar.{IsRegular};
 
 use crate::error::BiasKind;
-use crate::fault::{fifth_fault, fourth_fault, name_fault, value_fault};
+use crate::fault::{fifth_value, fourth_value, name_value, third_value};
 use crate::held::{Held, take_amps, take_drop, take_pad, take_supply};
 use crate::rule::rule;
 use crate::section::{Section, section_after};
 use crate::sort::{Sort, sort_of};
+use crate::value::Value;
 use number_place::texts_have_one_number;
-use reading::{Found, Grammar, Rule, Word, found_at};
+use reading::{Found, Heard, Rule, ValueGrammar, Word, told_at};
 use std::alloc::AllocError;
 
 /// The format of bias files, which depends on nothing but the text.
 pub(crate) struct BiasFormat;
 
-impl<'a> Grammar<'a> for BiasFormat {
+impl<'a> ValueGrammar<'a> for BiasFormat {
     type Sort = Sort;
 
     type Section = Section;
@@ -28,19 +30,32 @@ impl<'a> Grammar<'a> for BiasFormat {
 
     type Kind = BiasKind;
 
+    type Value = Value;
+
     ghost format = { λ bias. format };
 
     ghost pattern = { pattern };
 
+    ghost says = { λ bias units. says };
+
     ghost holds = { λ bias held units. Holds units held };
 
-    fn fault(&self, said: &Held<'a>, unit: &[Word<'a>]) -> Option<Found<BiasKind>> {
-        match unit {
-            [first, name] => found_at(1, name_fault(&said.lists, sort_of(first), name.text)),
-            [first, _, value] => found_at(2, value_fault(sort_of(first), value.text)),
-            [first, _, third, fourth] => found_at(3, fourth_fault(sort_of(first), third, fourth)),
-            [first, _, _, _, fifth] => found_at(4, fifth_fault(sort_of(first), fifth.text)),
-            _ => None,
+    fn hear(
+        &self,
+        said: &Held<'a>,
+        before: &[Heard<'a, Value>],
+        word: &Word<'a>,
+        sort: Sort,
+    ) -> Result<Value, Found<BiasKind>> {
+        match before {
+            [] => Ok(Value::Line(sort)),
+            [first] => told_at(1, name_value(&said.lists, first.value.line(), word.text)),
+            [first, _] => told_at(2, third_value(first.value.line(), word.text)),
+            [first, _, third] => {
+                told_at(3, fourth_value(first.value.line(), third.value, word, sort))
+            }
+            [first, _, _, _] => told_at(4, fifth_value(first.value.line(), word.text)),
+            _ => Ok(Value::Nothing),
         }
     }
 
@@ -60,7 +75,7 @@ impl<'a> Grammar<'a> for BiasFormat {
         false
     }
 
-    fn take(&self, said: &mut Held<'a>, unit: &[Word<'a>]) -> Result<(), AllocError> {
+    fn take(&self, said: &mut Held<'a>, unit: &[Heard<'a, Value>]) -> Result<(), AllocError> {
         take_supply(&mut said.lists.supplies, said.alloc, unit)?;
         take_drop(&mut said.lists.drops, said.alloc, unit)?;
         take_pad(&mut said.lists.pads, said.alloc, unit)?;

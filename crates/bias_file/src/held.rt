@@ -1,24 +1,27 @@
 //! What has been read of a bias file.
 //!
-//! A whole unit that is taken has shown no fault, so that its numbers can be read. What only reads them has no error.
-ghost use Rattle.std.specs.Prelude.{[], IfOk, OnOk, Ok, ◌≡◌, ◌<◌, ◌^◌, true, false, length, map};
+//! The words of a whole unit come with what they say, so that no number is read here. What only takes a line apart has
+//! no error.
+ghost use Rattle.std.specs.Prelude.{[], IfOk, OnOk, ◌≡◌, ◌≤◌, ◌^◌, true, false, length, map, List, ℕ};
 ghost use Rattle.entry_list.specs.InTurn.{InTurn};
-ghost use Rattle.number_place.specs.Place.{CanRead, IsNumberAt};
-ghost use Rattle.reading.specs.Word.{token};
+ghost use Rattle.number_place.specs.declared.place.NumberPlace.{NumberPlace};
+ghost use Rattle.reading.specs.Grammar.{AreHeard};
+ghost use Rattle.reading.specs.Word.{heard_token};
 ghost use Rattle.bias_file.specs.declared.sort.Sort.TheVariants as sorts;
+ghost use Rattle.bias_file.specs.declared.value.Value.{Value as Said};
 ghost use Rattle.bias_file.specs.Rule.{lines, has_value, has_range};
-ghost use Rattle.bias_file.specs.Sort.{the, sort_of};
+ghost use Rattle.bias_file.specs.Sort.{the};
 ghost use Rattle.bias_file.specs.Record.{SaysSupply, SaysDropLimit, SaysAmps, SaysPad};
-ghost use Rattle.bias_file.specs.inside.Held.{HoldsLines, HoldsLists, Holds, Takes, ShowsNone, FindsVolts, FindsAmps};
+ghost use Rattle.bias_file.specs.inside.Held.{HoldsLines, HoldsLists, Holds, Takes, FindsVolts, FindsAmps};
+ghost use Rattle.bias_file.specs.inside.Value.{IsWide, SaysThird, line_of, says};
 
-use crate::number::{AMPERES, DROP_VOLTS, MICROMETRES, VOLTS};
 use crate::record::{Amps, DropLimit, PadAt, Supply};
 use crate::section::Section;
-use crate::sort::{Sort, sort_of};
+use crate::sort::Sort;
+use crate::value::Value;
 use named_entries::NamedEntries;
-use number_place::{NumberPlace, number_at, small_number_at};
 use outside::Name;
-use reading::{Numbered, Word};
+use reading::{Heard, Numbered};
 use std::alloc::{AllocError, Global};
 
 /// What the lines of each kind say.
@@ -66,33 +69,10 @@ impl<'a> Held<'a> {
 }
 
 /// Whether the line begins with the word of this sort.
-fn begins(first: &Word<'_>, word: Sort) -> bool
-    ensures { result ≡ the word (sort_of (token first.now)) }
+fn begins(first: &Heard<'_, Value>, word: Sort) -> bool
+    ensures { result ≡ the word (line_of first.now.value) }
 {
-    sort_of(first).number() == word.number()
-}
-
-/// The value of a text in a place. One that is refused there stands in no unit that is taken, and counts as 0.
-fn value_of(place: NumberPlace, text: &[u8]) -> i128
-    requires { CanRead place }
-    ensures { ShowsNone place text.now → IsNumberAt place text.now (Ok result) }
-{
-    match number_at(place, text) {
-        Ok(value) => value,
-        Err(_) => 0,
-    }
-}
-
-/// The same where the limit fits 64 bits.
-fn small_value_of(place: NumberPlace, text: &[u8]) -> i64
-    requires place { CanRead place }
-    requires small { place.limit < 2 ^ 63 }
-    ensures { ShowsNone place text.now → IsNumberAt place text.now (Ok result) }
-{
-    match small_number_at(place, text) {
-        Ok(value) => value,
-        Err(_) => 0,
-    }
+    first.value.line().number() == word.number()
 }
 
 /// A line `KEYWORD NET V`, taken apart.
@@ -105,11 +85,12 @@ struct NetVolts<'a> {
 }
 
 /// A unit taken apart, if it is the line `KEYWORD NET V` with this first word.
-fn net_volts<'a>(word: Sort, place: NumberPlace, unit: &[Word<'a>]) -> Option<NetVolts<'a>>
-    requires can_read { CanRead place }
+fn net_volts<'a>(word: Sort, unit: &[Heard<'a, Value>]) -> Option<NetVolts<'a>>
     requires value { has_value word ≡ true }
     requires no_range { has_range word ≡ false }
-    ensures { FindsVolts word place (map token unit.now) result }
+    ensures { (place : NumberPlace) → place.limit ≤ 10 ^ 37 →
+        ((text : List ℕ) (value : Said) → SaysThird word text value → IsWide place text value) →
+        AreHeard says [] unit.now → FindsVolts word place (map heard_token unit.now) result }
 {
     let [first, net, value, _] = unit else {
         return None;
@@ -118,9 +99,9 @@ fn net_volts<'a>(word: Sort, place: NumberPlace, unit: &[Word<'a>]) -> Option<Ne
         return None;
     }
     Some(NetVolts {
-        line: first.place.line,
-        net: net.text,
-        volts: value_of(place, value.text),
+        line: first.word.place.line,
+        net: net.word.text,
+        volts: value.value.wide(),
     })
 }
 
@@ -128,12 +109,12 @@ fn net_volts<'a>(word: Sort, place: NumberPlace, unit: &[Word<'a>]) -> Option<Ne
 pub(crate) fn take_supply<'a>(
     supplies: &mut NamedEntries<'a, Supply>,
     alloc: Global,
-    unit: &[Word<'a>],
+    unit: &[Heard<'a, Value>],
 ) -> Result<(), AllocError>
-    ensures { OnOk result (Takes (HoldsLines SaysSupply sorts.Supply supplies.old)
-        (HoldsLines SaysSupply sorts.Supply supplies.new) (map token unit.now)) }
+    ensures { OnOk result (AreHeard says [] unit.now → Takes (HoldsLines SaysSupply sorts.Supply supplies.old)
+        (HoldsLines SaysSupply sorts.Supply supplies.new) (map heard_token unit.now)) }
 {
-    let Some(NetVolts { line, net, volts }) = net_volts(Sort::Supply, VOLTS, unit) else {
+    let Some(NetVolts { line, net, volts }) = net_volts(Sort::Supply, unit) else {
         return Ok(());
     };
     let supply = Supply {
@@ -148,12 +129,12 @@ pub(crate) fn take_supply<'a>(
 pub(crate) fn take_drop<'a>(
     drops: &mut NamedEntries<'a, DropLimit>,
     alloc: Global,
-    unit: &[Word<'a>],
+    unit: &[Heard<'a, Value>],
 ) -> Result<(), AllocError>
-    ensures { OnOk result (Takes (HoldsLines SaysDropLimit sorts.DropLimit drops.old)
-        (HoldsLines SaysDropLimit sorts.DropLimit drops.new) (map token unit.now)) }
+    ensures { OnOk result (AreHeard says [] unit.now → Takes (HoldsLines SaysDropLimit sorts.DropLimit drops.old)
+        (HoldsLines SaysDropLimit sorts.DropLimit drops.new) (map heard_token unit.now)) }
 {
-    let Some(NetVolts { line, net, volts }) = net_volts(Sort::DropLimit, DROP_VOLTS, unit) else {
+    let Some(NetVolts { line, net, volts }) = net_volts(Sort::DropLimit, unit) else {
         return Ok(());
     };
     let limit = DropLimit {
@@ -168,23 +149,23 @@ pub(crate) fn take_drop<'a>(
 pub(crate) fn take_pad(
     pads: &mut Vec<PadAt>,
     alloc: Global,
-    unit: &[Word<'_>],
+    unit: &[Heard<'_, Value>],
 ) -> Result<(), AllocError>
-    ensures { OnOk result (Takes (λ units. InTurn SaysPad (lines sorts.Pad units) pads.old.items)
-        (λ units. InTurn SaysPad (lines sorts.Pad units) pads.new.items) (map token unit.now)) }
+    ensures { OnOk result (AreHeard says [] unit.now → Takes (λ units. InTurn SaysPad (lines sorts.Pad units) pads.old.items)
+        (λ units. InTurn SaysPad (lines sorts.Pad units) pads.new.items) (map heard_token unit.now)) }
 {
     let [first, net, layer, x, y, _] = unit else {
         return Ok(());
     };
-    let Sort::Pad = sort_of(first) else {
+    if !begins(first, Sort::Pad) {
         return Ok(());
-    };
+    }
     pads.push(PadAt {
-        line: first.place.line,
-        x: small_value_of(MICROMETRES, x.text),
-        y: small_value_of(MICROMETRES, y.text),
-        net: Name::new(alloc, net.text)?,
-        layer: Name::new(alloc, layer.text)?,
+        line: first.word.place.line,
+        x: x.value.small(),
+        y: y.value.small(),
+        net: Name::new(alloc, net.word.text)?,
+        layer: Name::new(alloc, layer.word.text)?,
     })?;
     Ok(())
 }
@@ -201,10 +182,10 @@ struct NameAmps<'a> {
 }
 
 /// The same of four words: `cell MACRO I` or `instance NAME I`.
-fn one_current<'a>(word: Sort, unit: &[Word<'a>]) -> Option<NameAmps<'a>>
+fn one_current<'a>(word: Sort, unit: &[Heard<'a, Value>]) -> Option<NameAmps<'a>>
     requires word { has_range word ≡ true }
     requires four { length unit.now ≡ 4 }
-    ensures { FindsAmps word (map token unit.now) result }
+    ensures { AreHeard says [] unit.now → FindsAmps word (map heard_token unit.now) result }
 {
     let [first, name, value, _] = unit else {
         unreachable!();
@@ -212,20 +193,20 @@ fn one_current<'a>(word: Sort, unit: &[Word<'a>]) -> Option<NameAmps<'a>>
     if !begins(first, word) {
         return None;
     }
-    let current = small_value_of(AMPERES, value.text);
+    let current = value.value.small();
     Some(NameAmps {
-        line: first.place.line,
-        name: name.text,
+        line: first.word.place.line,
+        name: name.word.text,
         low: current,
         high: current,
     })
 }
 
 /// The same of five words: `cell MACRO LOW HIGH` or `instance NAME LOW HIGH`.
-fn current_range<'a>(word: Sort, unit: &[Word<'a>]) -> Option<NameAmps<'a>>
+fn current_range<'a>(word: Sort, unit: &[Heard<'a, Value>]) -> Option<NameAmps<'a>>
     requires word { has_range word ≡ true }
     requires five { length unit.now ≡ 5 }
-    ensures { FindsAmps word (map token unit.now) result }
+    ensures { AreHeard says [] unit.now → FindsAmps word (map heard_token unit.now) result }
 {
     let [first, name, low, high, _] = unit else {
         unreachable!();
@@ -233,20 +214,20 @@ fn current_range<'a>(word: Sort, unit: &[Word<'a>]) -> Option<NameAmps<'a>>
     if !begins(first, word) {
         return None;
     }
-    let least = small_value_of(AMPERES, low.text);
-    let greatest = small_value_of(AMPERES, high.text);
+    let least = low.value.small();
+    let greatest = high.value.small();
     Some(NameAmps {
-        line: first.place.line,
-        name: name.text,
+        line: first.word.place.line,
+        name: name.word.text,
         low: least,
         high: greatest,
     })
 }
 
 /// A unit taken apart, if it is a line of a current with this first word.
-fn name_amps<'a>(word: Sort, unit: &[Word<'a>]) -> Option<NameAmps<'a>>
+fn name_amps<'a>(word: Sort, unit: &[Heard<'a, Value>]) -> Option<NameAmps<'a>>
     requires { has_range word ≡ true }
-    ensures { FindsAmps word (map token unit.now) result }
+    ensures { AreHeard says [] unit.now → FindsAmps word (map heard_token unit.now) result }
 {
     match unit.len() {
         4 => one_current(word, unit),
@@ -260,11 +241,11 @@ pub(crate) fn take_amps<'a>(
     currents: &mut NamedEntries<'a, Amps>,
     word: Sort,
     alloc: Global,
-    unit: &[Word<'a>],
+    unit: &[Heard<'a, Value>],
 ) -> Result<(), AllocError>
     requires { has_range word ≡ true }
-    ensures { OnOk result (Takes (HoldsLines SaysAmps word currents.old) (HoldsLines SaysAmps word currents.new)
-        (map token unit.now)) }
+    ensures { OnOk result (AreHeard says [] unit.now → Takes (HoldsLines SaysAmps word currents.old) (HoldsLines SaysAmps word currents.new)
+        (map heard_token unit.now)) }
 {
     let Some(
         NameAmps {

@@ -17,6 +17,7 @@ mod record;
 mod rule;
 mod section;
 mod sort;
+mod value;
 
 pub use error::{BiasError, BiasKind};
 pub use laws::texts_have_one_bias;

@@ -1,9 +1,10 @@
 ghost use Rattle.std.specs.Prelude.{◌≡◌, map};
 ghost use Rattle.bias_file.specs.Section.{section_number, all_sections, section_after_word, section_after, listed, few};
-ghost use Rattle.reading.specs.Word.{token};
+ghost use Rattle.reading.specs.Word.{heard_token};
 
 use crate::sort::{Sort, sort_of};
-use reading::{Numbered, Word, last_word};
+use crate::value::Value;
+use reading::{Heard, Numbered, last_heard};
 
 /// Where the next unit stands.
 #[derive(Clone, Copy, Debug)]
@@ -42,11 +43,11 @@ fn section_after_word(sort: Sort) -> Section
 }
 
 /// The section after a unit.
-pub(crate) fn section_after(unit: &[Word<'_>]) -> Section
-    ensures { result ≡ section_after (map token unit.now) }
+pub(crate) fn section_after(unit: &[Heard<'_, Value>]) -> Section
+    ensures { result ≡ section_after (map heard_token unit.now) }
 {
-    match last_word(unit) {
-        Some(word) => section_after_word(sort_of(word)),
+    match last_heard(unit) {
+        Some(last) => section_after_word(sort_of(&last.word)),
         None => Section::LineStart,
     }
 }

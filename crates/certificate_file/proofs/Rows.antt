@@ -1,6 +1,6 @@
 -- Lines, and which of them are those of nodes.
-use Rattle.std.proofs.Common.{◌≡◌, ◌≢◌, ℕ, zero, suc, ◌+◌, ◌-◌, ◌<◌, ◌≤◌, ◌==◌, inl, inr, Bool, true, false, if◌then◌else◌, ℤ, List, [], ◌∷◌, ◌++◌, length, map, take, get_or, Option, Some, None, refl, sym, ◌∙◌, ap, subst, arith, length-append}
-use Rattle.std.specs.Prelude.{nat_le, IfSome, IfNone, is_none}
+use Rattle.std.proofs.Common.{◌≡◌, ◌≢◌, ℕ, zero, suc, ◌+◌, ◌-◌, ◌<◌, ◌≤◌, ◌==◌, inl, inr, Bool, true, false, if◌then◌else◌, ℤ, pos, List, [], ◌∷◌, ◌++◌, length, map, take, get_or, Option, Some, None, refl, sym, ◌∙◌, ap, subst, arith, length-append}
+use Rattle.std.specs.Prelude.{nat_le, IfSome, IfNone, is_some, unsigned_abs, vec_capacity}
 use native.Mathlib.Decide.{dec_le}
 use Rattle.std.specs.Str.{bytes_eq}
 use Rattle.std.proofs.lemmas.Slice.Eq.{bytes_eq-Decides}
@@ -12,12 +12,12 @@ use Rattle.text_lex.specs.Split.{Split}
 use Rattle.outside.specs.declared.place.Place.{Place}
 use Rattle.reading.specs.declared.refusal.Cause.TheVariants.{Lex}
 use Rattle.reading.specs.declared.word.Form.TheVariants.{Bare, End}
-use Rattle.reading.specs.declared.word.Word.{Word}
+use Rattle.reading.specs.declared.word.Heard.{Heard}
 use Rattle.reading.specs.Pattern.{One, Then, Matches, joined}
 use Rattle.reading.specs.Reading.{Follows, IsRead}
 use Rattle.reading.specs.Outcome.{IsReadAs}
-use Rattle.reading.specs.Grammar.{IsTaken}
-use Rattle.reading.specs.Word.{Token, last_of, end_at, text_with, seen_text, word_of}
+use Rattle.reading.specs.Grammar.{AreHeard, IsTaken}
+use Rattle.reading.specs.Word.{Token, heard_token, last_of, end_at, text_with, seen_text, word_of}
 use Rattle.certificate_file.specs.declared.section.Section.{Section}
 use Rattle.certificate_file.specs.declared.section.Section.TheVariants.{Head, Row, Close, Ended}
 use Rattle.certificate_file.specs.declared.sort.Sort.{Sort}
@@ -28,35 +28,11 @@ use Rattle.certificate_file.specs.declared.held.Held.{Held}
 use Rattle.certificate_file.specs.Sort.{the, sort_of, sort_with}
 use Rattle.certificate_file.specs.Section.{section_after}
 use Rattle.certificate_file.specs.Rule.{is_name, is_number, pattern, rows}
+use Rattle.certificate_file.specs.Voltage.{limit}
 use Rattle.certificate_file.specs.Fault.{IsRow, name_of_row}
 use Rattle.certificate_file.specs.Record.{name_on, SaysHigh, SaysLow, IsLists}
 use Rattle.certificate_file.specs.Format.{format}
-use Rattle.certificate_file.specs.inside.Held.{Holds, IsRowTaken}
-
--- ## slices of so many words
-
-abbrev pub no_word : Word
-no_word = record { text = record { ref_ptr = (0, 0); now = [] }; place = record { line = 0; word = 0 }; form = Bare }
-
-zero_words : (xs : List Word) → length xs < 1 → xs ≡ []
-zero_words [] h = refl
-zero_words (x ∷ xs) h = absurd (omega arith)
-
-pub one_word : (xs : List Word) → 1 ≤ length xs → length xs < 2 → xs ≡ get_or xs 0 no_word ∷ []
-one_word [] h k = absurd (omega arith)
-one_word (x ∷ xs) h k = ap (λ z. x ∷ z) (zero_words xs (omega arith))
-
-pub two_words : (xs : List Word) → 2 ≤ length xs → length xs < 3 → xs ≡ get_or xs 0 no_word ∷ get_or xs 1 no_word ∷ []
-two_words [] h k = absurd (omega arith)
-two_words (x ∷ xs) h k = ap (λ z. x ∷ z) (one_word xs (omega arith) (omega arith))
-
-pub three_words : (xs : List Word) → 3 ≤ length xs → length xs < 4 → xs ≡ get_or xs 0 no_word ∷ get_or xs 1 no_word ∷ get_or xs 2 no_word ∷ []
-three_words [] h k = absurd (omega arith)
-three_words (x ∷ xs) h k = ap (λ z. x ∷ z) (two_words xs (omega arith) (omega arith))
-
-pub four_words : (xs : List Word) → 4 ≤ length xs → length xs < 5 → xs ≡ get_or xs 0 no_word ∷ get_or xs 1 no_word ∷ get_or xs 2 no_word ∷ get_or xs 3 no_word ∷ []
-four_words [] h k = absurd (omega arith)
-four_words (x ∷ xs) h k = ap (λ z. x ∷ z) (three_words xs (omega arith) (omega arith))
+use Rattle.certificate_file.specs.inside.Held.{Holds, says, value_at}
 
 -- ## sections
 
@@ -227,10 +203,36 @@ row_named names lines [] taken row =
 row_named names lines (name ∷ words) taken row =
     same_name name.text (name_of_row names (length lines)) (λ other. taken.fine.0 (record { at = 0; kind = WrongNode }) (refl, (refl, row, other)))
 
-pub held_row : (names : List (List ℕ)) (lines : List (List Token)) (line : List Token) (old new after : Held) → Holds names lines old → IsTaken (format names) lines line →
-    IsRow (length names) (length lines) → IsRowTaken line old new → after.lines ≡ length lines + 1 → after.high.items ≡ new.high.items → after.low.items ≡ new.low.items →
-    Holds names (lines ++ line ∷ []) after
-held_row names lines line old new after h taken row more count high low =
+-- The line of a node has four words.
+row_length : (names : List (List ℕ)) (lines : List (List Token)) (line : List Token) → IsTaken (format names) lines line → IsRow (length names) (length lines) → length line ≡ 4
+row_length names lines line taken row =
+    ap length (four is_name is_number is_number (the LineEnd) line (subst (λ z. Matches sort_of (pattern z) line) (row_section (length names) (length lines) row) taken.matches)).is
+
+-- A node's line says the values of its second and third word.
+pub row_says : (names : List (List ℕ)) (lines : List (List Token)) (unit : List (Heard ℤ)) → IsTaken (format names) lines (map heard_token unit) → IsRow (length names) (length lines) →
+    AreHeard (says names (length lines)) [] unit → SaysHigh (map heard_token unit) (value_at unit 1) × SaysLow (map heard_token unit) (value_at unit 2)
+row_says names lines (name ∷ high ∷ low ∷ stop ∷ []) taken row heard = (heard.1.0 row, heard.1.1.0 row)
+row_says names lines [] taken row heard = absurd (let four : 0 ≡ 4 = row_length names lines [] taken row in cc)
+row_says names lines (a ∷ []) taken row heard = absurd (let four : 1 ≡ 4 = row_length names lines (map heard_token (a ∷ [])) taken row in cc)
+row_says names lines (a ∷ b ∷ []) taken row heard = absurd (let four : 2 ≡ 4 = row_length names lines (map heard_token (a ∷ b ∷ [])) taken row in cc)
+row_says names lines (a ∷ b ∷ c ∷ []) taken row heard = absurd (let four : 3 ≡ 4 = row_length names lines (map heard_token (a ∷ b ∷ c ∷ [])) taken row in cc)
+row_says names lines (a ∷ b ∷ c ∷ d ∷ e ∷ more) taken row heard =
+    let unit = a ∷ b ∷ c ∷ d ∷ e ∷ more in
+    let four : length (map heard_token unit) ≡ 4 = row_length names lines (map heard_token unit) taken row in
+    absurd (omega arith)
+
+pub high_within : (line : List Token) (v : ℤ) → SaysHigh line v → unsigned_abs v ≤ limit
+high_within (name ∷ high ∷ low ∷ stop ∷ []) v says = says.2.within
+high_within line v says = absurd says
+
+pub low_within : (line : List Token) (v : ℤ) → SaysLow line v → unsigned_abs v ≤ limit
+low_within (name ∷ high ∷ low ∷ stop ∷ []) v says = says.2.within
+low_within line v says = absurd says
+
+pub held_row : (names : List (List ℕ)) (lines : List (List Token)) (line : List Token) (old new : Held) (v w : ℤ) → Holds names lines old → IsTaken (format names) lines line →
+    IsRow (length names) (length lines) → SaysHigh line v → SaysLow line w → new.lines ≡ length lines + 1 → new.high.items ≡ old.high.items ++ v ∷ [] → new.low.items ≡ old.low.items ++ w ∷ [] →
+    vec_capacity old.high ≤ vec_capacity new.high → vec_capacity old.low ≤ vec_capacity new.low → Holds names (lines ++ line ∷ []) new
+held_row names lines line old new v w h taken row says_high says_low count high low high_room low_room =
     let grown = rows_more (length names) lines line row in
     let total : length (lines ++ line ∷ []) ≡ length lines + 1 = length-append lines (line ∷ []) in
     let at = length lines - 1 in
@@ -242,10 +244,12 @@ held_row names lines line old new after h taken row more count high low =
           ap (map name_on) grown ∙ map-append name_on (rows (length names) lines) (line ∷ [])
           ∙ ap (λ z. z ++ name_on line ∷ []) h.named ∙ ap (λ z. take at names ++ z ∷ []) (row_named names lines line taken row)
           ∙ sym (names_more names at inside) ∙ ap (λ z. take z names) next;
-      high = subst (λ z. InTurn SaysHigh z after.high.items) (sym grown) (subst (λ z. InTurn SaysHigh (rows (length names) lines ++ line ∷ []) z) (sym (high ∙ more.high_is))
-          (in-turn-more SaysHigh (rows (length names) lines) old.high.items line more.high h.high more.says_high));
-      low = subst (λ z. InTurn SaysLow z after.low.items) (sym grown) (subst (λ z. InTurn SaysLow (rows (length names) lines ++ line ∷ []) z) (sym (low ∙ more.low_is))
-          (in-turn-more SaysLow (rows (length names) lines) old.low.items line more.low h.low more.says_low));
+      high = subst (λ z. InTurn SaysHigh z new.high.items) (sym grown) (subst (λ z. InTurn SaysHigh (rows (length names) lines ++ line ∷ []) z) (sym high)
+          (in-turn-more SaysHigh (rows (length names) lines) old.high.items line v h.high says_high));
+      low = subst (λ z. InTurn SaysLow z new.low.items) (sym grown) (subst (λ z. InTurn SaysLow (rows (length names) lines ++ line ∷ []) z) (sym low)
+          (in-turn-more SaysLow (rows (length names) lines) old.low.items line w h.low says_low));
+      high_room = (let before = h.high_room in omega arith);
+      low_room = (let before = h.low_room in omega arith);
     }
 
 -- Where no line of a node comes, all names stand, or none yet.
@@ -256,17 +260,18 @@ names_kept names (head ∷ body) none =
     let many : length names ≤ length body = elim (dec_le (length names) (length body)) [ Prim.yes h ↦ h | Prim.no h ↦ absurd (none (some, omega arith)) ] in
     take_all (length (head ∷ body) - 1) names (omega arith) ∙ sym (take_all (length (head ∷ body) + 1 - 1) names (omega arith))
 
-pub held_other : (names : List (List ℕ)) (lines : List (List Token)) (line : List Token) (old after : Held) → Holds names lines old →
-    (IsRow (length names) (length lines) → ⊥) → after.lines ≡ length lines + 1 → after.high.items ≡ old.high.items → after.low.items ≡ old.low.items →
-    Holds names (lines ++ line ∷ []) after
-held_other names lines line old after h none count high low =
+pub held_other : (names : List (List ℕ)) (lines : List (List Token)) (line : List Token) (old new : Held) → Holds names lines old →
+    (IsRow (length names) (length lines) → ⊥) → new.lines ≡ length lines + 1 → new.high ≡ old.high → new.low ≡ old.low → Holds names (lines ++ line ∷ []) new
+held_other names lines line old new h none count high low =
     let same = rows_same (length names) lines line none in
     let total : length (lines ++ line ∷ []) ≡ length lines + 1 = length-append lines (line ∷ []) in
     record {
       count = count ∙ sym total;
       named = ap (map name_on) same ∙ h.named ∙ names_kept names lines none ∙ ap (λ z. take (z - 1) names) (sym total);
-      high = subst (λ z. InTurn SaysHigh z after.high.items) (sym same) (subst (λ z. InTurn SaysHigh (rows (length names) lines) z) (sym high) h.high);
-      low = subst (λ z. InTurn SaysLow z after.low.items) (sym same) (subst (λ z. InTurn SaysLow (rows (length names) lines) z) (sym low) h.low);
+      high = subst (λ z. InTurn SaysHigh z new.high.items) (sym same) (subst (λ z. InTurn SaysHigh (rows (length names) lines) z.items) (sym high) h.high);
+      low = subst (λ z. InTurn SaysLow z new.low.items) (sym same) (subst (λ z. InTurn SaysLow (rows (length names) lines) z.items) (sym low) h.low);
+      high_room = subst (λ z. length names ≤ vec_capacity z) (sym high) h.high_room;
+      low_room = subst (λ z. length names ≤ vec_capacity z) (sym low) h.low_room;
     }
 
 -- ## the lists
@@ -276,6 +281,24 @@ turn_count says [] [] h = refl
 turn_count says (line ∷ lines) (value ∷ values) h = ap suc (turn_count says lines values h.1)
 turn_count says [] (value ∷ values) h = absurd h
 turn_count says (line ∷ lines) [] h = absurd h
+
+-- Before the line of a node there are fewer voltages than nodes.
+rows_before : (nodes : ℕ) (lines : List (List Token)) → IsRow nodes (length lines) → length (rows nodes lines) < nodes
+rows_before nodes [] row = absurd (let some : 0 < 0 = row.0 in omega arith)
+rows_before nodes (head ∷ body) row =
+    let within : length (head ∷ body) ≤ nodes = row.1 in
+    let all : length (rows nodes (head ∷ body)) ≡ length body = ap length (take_all nodes body (omega arith)) in
+    omega arith
+
+pub row_room : (names : List (List ℕ)) (lines : List (List Token)) (held : Held) → Holds names lines held → IsRow (length names) (length lines) →
+    (length held.high.items < vec_capacity held.high) × (length held.low.items < vec_capacity held.low)
+row_room names lines held h row =
+    let before = rows_before (length names) lines row in
+    let high = turn_count SaysHigh (rows (length names) lines) held.high.items h.high in
+    let low = turn_count SaysLow (rows (length names) lines) held.low.items h.low in
+    let high_room = h.high_room in
+    let low_room = h.low_room in
+    (omega arith, omega arith)
 
 pub is_lists : (names : List (List ℕ)) (lines : List (List Token)) (held : Held) (lists : Lists) → Holds names lines held → length names < length lines →
     lists.high ≡ held.high.items → lists.low ≡ held.low.items → IsLists names lines lists
@@ -295,10 +318,26 @@ pub low_count : (names : List (List ℕ)) (lines : List (List Token)) (lists : L
 low_count names lines lists h = turn_count SaysLow (rows (length names) lines) lists.low h.low ∙ rows_count names lines lists h
 
 -- A row's name is there where it is found.
-pub found_row : (P : Type 0) {A : Type 0} (o : Option A) → IfSome o (λ x. P) → is_none o ≡ false → P
+pub found_row : (P : Type 0) {A : Type 0} (o : Option A) → IfSome o (λ x. P) → is_some o ≡ true → P
 found_row P (Some x) h e = h
-found_row P None h e = absurd (let t : true ≡ false = e in cc)
+found_row P None h e = absurd (let t : false ≡ true = e in cc)
 
-pub found_none : (P : Type 0) {A : Type 0} (o : Option A) → IfNone o (P → ⊥) → is_none o ≡ true → P → ⊥
+pub found_none : (P : Type 0) {A : Type 0} (o : Option A) → IfNone o (P → ⊥) → is_some o ≡ false → P → ⊥
 found_none P None h e = h
-found_none P (Some x) h e = absurd (let t : false ≡ true = e in cc)
+found_none P (Some x) h e = absurd (let t : true ≡ false = e in cc)
+
+-- ## values of words
+
+-- What the accesses of a unit have where there is no word.
+abbrev pub no_word : Heard ℤ
+no_word = record { word = record { text = record { ref_ptr = (0, 0); now = [] }; place = record { line = 0; word = 0 }; form = Bare }; value = pos 0 }
+
+pub value_read : (unit : List (Heard ℤ)) (n : ℕ) (heard : Heard ℤ) → n < length unit → heard ≡ get_or unit n heard → value_at unit n ≡ heard.value
+value_read [] n heard inside is = absurd (omega arith)
+value_read (x ∷ xs) zero heard inside is = ap (λ (z : Heard ℤ). z.value) (sym is)
+value_read (x ∷ xs) (suc n) heard inside is = value_read xs n heard (omega arith) is
+
+pub value_past : (unit : List (Heard ℤ)) (n : ℕ) → length unit ≤ n → value_at unit n ≡ pos 0
+value_past [] n past = refl
+value_past (x ∷ xs) zero past = absurd (omega arith)
+value_past (x ∷ xs) (suc n) past = value_past xs n (omega arith)

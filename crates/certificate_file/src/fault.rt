@@ -1,10 +1,11 @@
-//! The faults that the words of a line show.
+//! What the words of a line say, or the faults that they show.
 ghost use Rattle.std.specs.Prelude.{◌≡◌, ◌≤◌, IfNone, IfSome, length};
 ghost use Rattle.certificate_file.specs.Fault.{IsRow, name_of_row, NameFault, VoltageFault};
-ghost use Rattle.reading.specs.Fault.{Finds};
+ghost use Rattle.certificate_file.specs.inside.Held.{SaysVoltage};
+ghost use Rattle.reading.specs.Fault.{FindsValue};
 
 use crate::error::CertKind;
-use crate::voltage::{is_short_voltage, voltage};
+use crate::voltage::voltage;
 use fixed_decimal::texts_have_one_answer;
 use outside::Name;
 
@@ -20,29 +21,27 @@ pub(crate) fn row_name<'n>(names: &'n [Name], lines: usize) -> Option<&'n Name>
     names.get(lines - 1)
 }
 
-/// Why the name is refused on the line that comes after so many lines.
-pub(crate) fn name_fault(names: &[Name], lines: usize, name: &[u8]) -> Option<CertKind>
-    ensures { Finds (NameFault names.now lines name.now) result }
+/// What the name says on the line that comes after so many lines, which is nothing, or why it is refused.
+pub(crate) fn name_value(names: &[Name], lines: usize, name: &[u8]) -> Result<i128, CertKind>
+    ensures { FindsValue (NameFault names.now lines name.now) (λ value. Unit {0}) result }
 {
     match row_name(names, lines) {
-        Some(node) if node.bytes() != name => Some(CertKind::WrongNode),
-        _ => None,
+        Some(node) if node.bytes() != name => Err(CertKind::WrongNode),
+        _ => Ok(0),
     }
 }
 
-/// Why the text is refused as a voltage of the line that comes after so many lines.
-pub(crate) fn voltage_fault(names: &[Name], lines: usize, text: &[u8]) -> Option<CertKind>
-    ensures { Finds (VoltageFault names.now lines text.now) result }
+/// The voltage that the text stands for on the line that comes after so many lines, or why it is refused. On a line of
+/// no node it says nothing.
+pub(crate) fn voltage_value(names: &[Name], lines: usize, text: &[u8]) -> Result<i128, CertKind>
+    ensures { FindsValue (VoltageFault names.now lines text.now) (SaysVoltage names.now lines text.now) result }
 {
     if row_name(names, lines).is_none() {
-        return None;
+        return Ok(0);
     }
     texts_have_one_answer();
-    if is_short_voltage(text) {
-        return None;
-    }
     match voltage(text) {
-        Ok(_) => None,
-        Err(error) => Some(CertKind::Number(error)),
+        Ok(value) => Ok(value),
+        Err(error) => Err(CertKind::Number(error)),
     }
 }

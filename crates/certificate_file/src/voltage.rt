@@ -1,5 +1,5 @@
 //! The voltages of a certificate.
-ghost use Rattle.std.specs.Prelude.{◌≡◌, ◌≤◌, ◌<◌, ◌^◌, ◌++◌, [], IfSome, IsTrue, Ok, ℤ, length, codes, if◌then◌else◌};
+ghost use Rattle.std.specs.Prelude.{◌≡◌, ◌≤◌, ◌<◌, ◌^◌, ◌++◌, [], IfSome, Ok, length, codes, if◌then◌else◌};
 ghost use Rattle.std.specs.Str.Parse.{AllDigits, IsNumeral, digits_value};
 ghost use Rattle.fixed_decimal.specs.Value.{signed};
 ghost use Rattle.certificate_file.specs.Voltage.{IsVoltage};
@@ -46,13 +46,6 @@ fn short_number(digits: &[u8]) -> Option<u128>
     Some(u128::from(front) * FRONT_WEIGHT + u128::from(back))
 }
 
-/// Whether each byte is a digit. It counts the others, which takes less time than to stop at one.
-fn are_digits(text: &[u8]) -> bool
-    ensures { IsTrue result → AllDigits 10 text.now }
-{
-    text.iter().filter(|byte| !byte.is_ascii_digit()).count() == 0
-}
-
 /// Whether the text begins with a minus, and what follows it.
 fn sign_and_digits(text: &[u8]) -> (bool, &[u8])
     ensures { text.now ≡ (if result.0 then codes "-" else []) ++ result.1.now }
@@ -82,17 +75,6 @@ fn short_voltage(text: &[u8]) -> Option<i128>
     let (negative, digits) = sign_and_digits(text);
     let number = short_number(digits)?;
     Some(signed(negative, number))
-}
-
-/// Whether a word is a voltage of at most 37 digits, so that none of its digits has to be counted.
-pub(crate) fn is_short_voltage(text: &[u8]) -> bool
-    ensures { IsTrue result → ((value : ℤ) × IsVoltage text.now (Ok value)) }
-{
-    let (_, digits) = sign_and_digits(text);
-    if digits.is_empty() || digits.len() > SHORT {
-        return false;
-    }
-    are_digits(digits)
 }
 
 /// The voltage that a word stands for, in yV: a `-` or none, and digits.

@@ -1,5 +1,5 @@
 -- What one more line of a netlist gives.
-use Rattle.std.proofs.Common.{◌≡◌, Bool, true, false, if◌then◌else◌, List, [], ◌∷◌, ◌++◌, Option, None, Some, refl, sym, ◌∙◌, ap, subst, append_assoc, ◌&&◌}
+use Rattle.std.proofs.Common.{◌≡◌, ℕ, Bool, true, false, if◌then◌else◌, List, [], ◌∷◌, ◌++◌, Option, None, Some, refl, sym, ◌∙◌, ap, append_assoc, arith, ◌&&◌, ◌==◌, ◌<◌, length, codes}
 use Rattle.outside.specs.declared.place.Place.{Place}
 use Rattle.reading.specs.declared.word.Form.TheVariants.{Bare}
 use Rattle.reading.specs.declared.word.Word.{Word}
@@ -8,11 +8,14 @@ use Rattle.reading.specs.Source.{Ended}
 use Rattle.netlist_words.specs.declared.class.Class.{Class}
 use Rattle.netlist_words.specs.declared.class.Class.TheVariants.{Passed, Begins, GoesOn, Strays, Ranges}
 use Rattle.netlist_words.specs.declared.class.Before.{Before}
+use Rattle.netlist_words.specs.declared.class.Before.TheVariants.{Nothing}
+use Rattle.std.specs.Str.{bytes_eq}
 use Rattle.netlist_words.specs.Line.{Line, words_of, words_on, line_start}
-use Rattle.netlist_words.specs.Class.{class_of, open_after, aside, has_card, may_range, names_range, has_none}
+use Rattle.netlist_words.specs.Class.{class_of, open_after, aside, opened_by, opened, has_card, may_range, names_range, has_none}
+use Rattle.netlist_words.specs.Letter.{letter_of}
 use Rattle.netlist_words.specs.Title.{begins_with, has_card_form}
 use Rattle.netlist_words.specs.Text.{Classed, card_end, with_form, counted, counted_with, given, end_before, end_of_card, closing, words_from}
-use Rattle.netlist_words.specs.inside.Left.{pending_in, owed_place, after, with_end, TakesWord}
+use Rattle.netlist_words.specs.inside.Left.{pending_in, owed_place, after, with_end, BeginsAt, TakesWord}
 use Rattle.netlist_words.proofs.Words.{bare_same}
 
 abbrev pub classed : Class → Line → Classed
@@ -71,16 +74,10 @@ pub goes_plus : (before : Before) (line : Line) → class_of before line ≡ Goe
 goes_plus before line h =
     goes_by (begins_with 43 line.bytes) (has_card before) (may_range before && names_range (words_on line)) (begins_with 42 line.bytes) (has_none (words_on line)) h
 
-pub takes_first : (line : Line) (first : Option Word) (ws more : List Token) → ws ≡ with_form Bare (words_on line) → TakesWord ws first more →
-    TakesWord (words_on line) first more
-takes_first line first ws more same takes = subst (λ z. TakesWord z first more) (same ∙ bare_same (line_start line) (words_of line.bytes)) takes
-
--- The class that was found from the first word.
-pub class_is : (before : Before) (line : Line) (found class : Class) (first : Option Word) (ws more : List Token) →
-    ws ≡ with_form Bare (words_on line) → TakesWord ws first more → ((others : List Token) → TakesWord (words_on line) first others → found ≡ class_of before line) →
-    found ≡ class → class_of before line ≡ class
-class_is before line found class first ws more same takes tells is =
-    sym (tells more (takes_first line first ws more same takes)) ∙ is
+-- The class that was found.
+pub class_is : (before : Before) (line : Line) (found class : Class) (front : List ℕ) → BeginsAt (words_on line) front →
+    (BeginsAt (words_on line) front → found ≡ class_of before line) → found ≡ class → class_of before line ≡ class
+class_is before line found class front begins tells is = sym (tells begins) ∙ is
 
 -- A line that is passed over.
 pub passed : (owed : Bool) (before : Before) (line : Line) (next : Before) → class_of before line ≡ Passed → next ≡ aside before →
@@ -119,3 +116,14 @@ own_end pending ends old new place p q end none is spent left same e =
     ∙ ap (λ z. card_end z ∷ []) same
     ∙ ap (λ z. z ∷ []) (sym e)
     ∙ ap (λ z. end ∷ z) (sym (ap (λ z. pending_in z ++ new) none ∙ left))
+
+-- ## the first word of a line
+
+not_star : (byte : ℕ) (more : List ℕ) → (byte == 42) ≡ false → bytes_eq (byte ∷ more) (codes "*range") ≡ false
+not_star byte more h = ap (λ z. z && bytes_eq more (codes "range")) h
+
+-- A word that does not begin with `*` is not `*range`.
+pub no_range : (words : List Token) (front : List ℕ) → begins_with 42 front ≡ false → BeginsAt words front → false ≡ names_range words
+no_range words [] h e = ap names_range (sym e)
+no_range words (byte ∷ front) h b =
+    sym (ap names_range b.3 ∙ ap (λ z. bytes_eq z (codes "*range")) b.4 ∙ not_star byte b.2 h)

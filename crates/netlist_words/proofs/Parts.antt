@@ -1,12 +1,14 @@
 -- Lists of bytes cut at those that separate.
-use Rattle.std.proofs.Common.{◌≡◌, ℕ, zero, suc, ◌+◌, ◌-◌, ◌<◌, ◌≤◌, ◌==◌, Bool, true, false, if◌then◌else◌, List, [], ◌∷◌, length, take, drop, get_or, filter, None, Some, refl, sym, ◌∙◌, ap, arith, take_all, length-drop, ◌⊎◌, inl, inr}
+use Rattle.std.proofs.Common.{◌≡◌, ℕ, zero, suc, ◌+◌, ◌-◌, ◌<◌, ◌≤◌, ◌==◌, Bool, true, false, if◌then◌else◌, List, [], ◌∷◌, length, take, drop, get_or, filter, None, Some, refl, sym, ◌∙◌, ap, subst, arith, take_all, length-drop, ◌⊎◌, inl, inr}
 use Rattle.std.proofs.lemmas.Bool.{false_from_ne_true}
 use Rattle.std.proofs.lemmas.List.{get_or-drop}
 use Rattle.memchr.specs.Find.{IsFirstByte, is_byte}
 use Rattle.text_lex.specs.Bytes.{is_white}
 use Rattle.text_lex.specs.declared.word.Mode.TheVariants.{Lines}
-use Rattle.netlist_words.specs.Line.{Line, with_byte, parts, numbered, is_some_word, words_of}
-use Rattle.netlist_words.specs.inside.Left.{IsRun, lines_left}
+use Rattle.outside.specs.declared.place.Place.{Place}
+use Rattle.reading.specs.declared.word.Form.TheVariants.{Bare}
+use Rattle.netlist_words.specs.Line.{Line, with_byte, parts, numbered, is_some_word, words_of, placed}
+use Rattle.netlist_words.specs.inside.Left.{IsRun, BeginsAt, lines_left}
 
 abbrev pub part_by : ℕ → List (List ℕ) → Bool → List (List ℕ)
 part_by byte rest separates = if separates then ([] ∷ rest) else with_byte byte rest
@@ -160,3 +162,40 @@ words_some text n m gap run some =
     words_gap text n gap.within gap.inside ∙ ap words_of (sym (slice_is n text))
     ∙ words_run rest m some run.within run.inside run.ends
     ∙ ap (λ z. take m rest ∷ words_of z) (sym (slice_is m rest))
+
+-- ## the first word of a line
+
+some_by : (is : Bool) (byte : ℕ) (others : List (List ℕ)) → 0 < length others → 0 < length (if is then ([] ∷ others) else with_byte byte others)
+some_by true byte others h = omega arith
+some_by false byte [] h = h
+some_by false byte (text ∷ texts) h = omega arith
+
+-- There is always a part.
+pub parts_some : (separates : ℕ → Bool) (bytes : List ℕ) → 0 < length (parts separates bytes)
+parts_some separates [] = omega arith
+parts_some separates (byte ∷ bytes) = some_by (separates byte) byte (parts separates bytes) (parts_some separates bytes)
+
+begun_by : (byte : ℕ) (texts : List (List ℕ)) → 0 < length texts → (p : List ℕ) × (others : List (List ℕ)) × (filter is_some_word (with_byte byte texts) ≡ (byte ∷ p) ∷ others)
+begun_by byte [] h = absurd (let t : 0 < 0 = h in omega arith)
+begun_by byte (text ∷ texts) h = (text, filter is_some_word texts, refl)
+
+begins_at : (place : Place) (front : List ℕ) → (0 < length front → white (get_or front 0 0) ≡ false) → BeginsAt (placed place (words_of front)) front
+begins_at place [] h = refl
+begins_at place (byte ∷ bytes) h =
+    let b = begun_by byte (parts white bytes) (parts_some white bytes) in
+    let e : words_of (byte ∷ bytes) ≡ (byte ∷ b.0) ∷ b.1 = ap (λ z. filter is_some_word (part_by byte (parts white bytes) z)) (h (omega arith)) ∙ b.2 in (
+      record { text = byte ∷ b.0; place = place; form = Bare },
+      placed (record { line = place.line; word = place.word + 1 }) b.1,
+      b.0,
+      ap (placed place) e,
+      refl,
+    )
+
+-- The bytes after the white ones begin with the first word.
+pub begins_after : (place : Place) (text : List ℕ) (n : ℕ) → IsRun true text n → BeginsAt (placed place (words_of text)) (slice_from n text)
+begins_after place text n gap =
+    let same = slice_is n text in
+    let first : get_or (drop n text) 0 0 ≡ get_or text n 0 = get_or-drop n text 0 0 ∙ ap (λ k. get_or text k 0) (omega arith) in
+    subst (λ z. BeginsAt (placed place (words_of text)) z) (sym same)
+    (subst (λ z. BeginsAt (placed place z) (drop n text)) (sym (words_gap text n gap.within gap.inside))
+    (begins_at place (drop n text) (λ lt. ap white first ∙ gap.ends (omega (arith, lt, length-drop n text)))))

@@ -17,6 +17,7 @@ use Rattle.netlist_words.specs.Line.{Line, with_byte, parts, numbered, lines_of,
 use Rattle.netlist_words.specs.Title.{begins_with, is_title, without_title}
 use Rattle.netlist_words.specs.Text.{Classed, counted_with, counted, card_end, without_plus, with_form, given, end_before, end_of_card, closing, words_from, netlist_text}
 use Rattle.netlist_words.specs.CardWord.{IsCardWord}
+use Rattle.netlist_words.proofs.Parts.{parts_some}
 
 -- ## bytes
 
@@ -174,15 +175,6 @@ BeginsWithPlus (text ∷ texts) = (rest : List ℕ) × (text ≡ 43 ∷ rest)
 plus_by : (others : List (List ℕ)) → 0 < length others → BeginsWithPlus (filter is_some_word (with_byte 43 others))
 plus_by [] h = absurd (let t : 0 < 0 = h in omega arith)
 plus_by (text ∷ texts) h = (text, refl)
-
-some_by : (is : Bool) (byte : ℕ) (others : List (List ℕ)) → 0 < length others → 0 < length (if is then ([] ∷ others) else with_byte byte others)
-some_by true byte others h = omega arith
-some_by false byte [] h = h
-some_by false byte (text ∷ texts) h = omega arith
-
-parts_some : (separates : ℕ → Bool) (bytes : List ℕ) → 0 < length (parts separates bytes)
-parts_some separates [] = omega arith
-parts_some separates (byte ∷ bytes) = some_by (separates byte) byte (parts separates bytes) (parts_some separates bytes)
 
 plus_first : (bytes : List ℕ) → begins_with 43 bytes ≡ true → BeginsWithPlus (words_of bytes)
 plus_first [] h = absurd (no_false h)

@@ -1,14 +1,15 @@
 //! What the lines of a netlist are.
 ghost use Rattle.std.specs.Prelude.{◌≡◌, List};
-ghost use Rattle.reading.specs.Word.{Token, token};
+ghost use Rattle.reading.specs.Word.{Token};
 ghost use Rattle.netlist_words.specs.Class.{has_card, may_range, names_range, class_of, aside, again, opened_by, opened};
 ghost use Rattle.netlist_words.specs.Line.{line_of, words_on};
-ghost use Rattle.netlist_words.specs.inside.Left.{TakesWord};
+ghost use Rattle.netlist_words.specs.inside.Left.{BeginsAt};
 
 use crate::letter::{Letter, letter_of};
 use crate::line::Line;
 use crate::title::begins_with;
-use reading::Word;
+use crate::word::LineWords;
+use reading::Form;
 
 /// What a line is.
 #[derive(Clone, Copy, Debug, PartialEq, Eq)]
@@ -58,20 +59,22 @@ fn may_range(before: Before) -> bool
     }
 }
 
-/// Whether the first word of a line is `*range`.
-fn names_range(first: Option<Word<'_>>) -> bool
-    ensures { (words more : List Token) → TakesWord words first.entry more → result ≡ names_range words }
+/// Whether the first word of a line is `*range`, where its words begin with these bytes.
+fn names_range(line: Line<'_>, front: &[u8]) -> bool
+    ensures { BeginsAt (words_on (line_of line.entry)) front.now → result ≡ names_range (words_on (line_of line.entry)) }
 {
-    match first {
+    if !begins_with(b'*', front) {
+        return false;
+    }
+    match LineWords::new(line, Form::Bare).next() {
         Some(word) => word.text == b"*range".as_slice(),
         None => false,
     }
 }
 
-/// What the line with this first word is, by what stands before it.
-pub(crate) fn class_of(before: Before, line: Line<'_>, first: Option<Word<'_>>) -> Class
-    ensures { (more : List Token) → TakesWord (words_on (line_of line.entry)) first.entry more →
-        result ≡ class_of before (line_of line.entry) }
+/// What the line is whose words begin with these bytes, by what stands before it.
+pub(crate) fn class_of(before: Before, line: Line<'_>, front: &[u8]) -> Class
+    ensures { BeginsAt (words_on (line_of line.entry)) front.now → result ≡ class_of before (line_of line.entry) }
 {
     if begins_with(b'+', line.bytes) {
         return if has_card(before) {
@@ -80,10 +83,10 @@ pub(crate) fn class_of(before: Before, line: Line<'_>, first: Option<Word<'_>>) 
             Class::Strays
         };
     }
-    if may_range(before) && names_range(first) {
+    if may_range(before) && names_range(line, front) {
         return Class::Ranges;
     }
-    if begins_with(b'*', line.bytes) || first.is_none() {
+    if begins_with(b'*', line.bytes) || front.is_empty() {
         Class::Passed
     } else {
         Class::Begins
@@ -110,13 +113,14 @@ pub(crate) fn again(before: Before) -> Before
     }
 }
 
-/// What stands before the next line, where one begins a card with this first word.
-pub(crate) fn opened(first: Option<Word<'_>>) -> Before
-    ensures { (words more : List Token) → TakesWord words first.entry more → result ≡ opened words }
+/// What stands before the next line, where one begins a card whose words begin with these bytes.
+pub(crate) fn opened(front: &[u8]) -> Before
+    ensures { (words : List Token) → BeginsAt words front.now → result ≡ opened words }
 {
-    match first {
-        Some(word) => opened_by(letter_of(word.text)),
-        None => Before::Nothing,
+    if front.is_empty() {
+        Before::Nothing
+    } else {
+        opened_by(letter_of(front))
     }
 }
 

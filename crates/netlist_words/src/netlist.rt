@@ -1,5 +1,5 @@
 //! The words of a netlist.
-ghost use Rattle.std.specs.Prelude.{◌≡◌, ◌∷◌, [], List, true, false};
+ghost use Rattle.std.specs.Prelude.{◌≡◌, ◌≤◌, ◌+◌, ◌∷◌, [], List, length, true, false};
 ghost use Rattle.outside.specs.declared.place.Place.{Place as PlaceOf};
 ghost use Rattle.reading.specs.Word.{token, end_at};
 ghost use Rattle.reading.specs.Source.{IsWhole};
@@ -11,7 +11,7 @@ ghost use Rattle.netlist_words.specs.inside.Left.{lines_in, words_in, owed_place
 use crate::class::{Before, Class, again, aside, class_of, opened};
 use crate::line::{Line, Lines};
 use crate::title::is_title;
-use crate::word::LineWords;
+use crate::word::{LineWords, from_first_word};
 use outside::Place;
 use reading::{Form, Source, Word};
 use std::marker::Model;
@@ -136,9 +136,8 @@ fn enter<'a>(before: Before, owed: bool, line: Line<'a>) -> Given<'a>
         after owed (counted before (line_of line.entry ∷ lines)) end ≡ left_with result lines end }
     ensures counts { CanCountWords result.words }
 {
-    let mut words = LineWords::new(line, Form::Bare);
-    let first = words.next();
-    match class_of(before, line, first) {
+    let front = from_first_word(line);
+    match class_of(before, line, front) {
         Class::Passed => Given {
             pending: None,
             words: LineWords {
@@ -154,7 +153,7 @@ fn enter<'a>(before: Before, owed: bool, line: Line<'a>) -> Given<'a>
             pending: owed_at(owed, line),
             words: LineWords::new(line, Form::Bare),
             ends: false,
-            before: opened(first),
+            before: opened(front),
             owed: true,
         },
         Class::GoesOn => Given {
@@ -312,6 +311,7 @@ impl<'a> NetlistWords<'a> {
     pub fn new(text: &'a [u8]) -> NetlistWords<'a>
         ensures words { result ≡ netlist_text text.now }
         ensures whole { IsWhole result }
+        ensures few { length result.words ≤ length text.now + 2 }
     {
         NetlistWords {
             cards: Cards::new(text),

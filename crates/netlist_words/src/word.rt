@@ -4,7 +4,7 @@ ghost use Rattle.text_lex.specs.Bytes.{is_white as white_byte};
 ghost use Rattle.text_lex.specs.declared.word.Mode.TheVariants.{Lines as lines_mode};
 ghost use Rattle.netlist_words.specs.Line.{line_of, words_on, line_end};
 ghost use Rattle.netlist_words.specs.Text.{with_form};
-ghost use Rattle.netlist_words.specs.inside.Left.{words_in, words_end, IsRun, CanCountWords, TakesWord};
+ghost use Rattle.netlist_words.specs.inside.Left.{words_in, words_end, IsRun, BeginsAt, CanCountWords, TakesWord};
 
 use crate::line::Line;
 use outside::Place;
@@ -37,6 +37,13 @@ fn run_len(text: &[u8], white: bool) -> usize
         }
     }
     text.len()
+}
+
+/// The bytes of a line from its first word on. A line without words has none.
+pub(crate) fn from_first_word<'a>(line: Line<'a>) -> &'a [u8]
+    ensures { BeginsAt (words_on (line_of line.entry)) result.now }
+{
+    &line.bytes[run_len(line.bytes, true)..]
 }
 
 impl<'a> LineWords<'a> {

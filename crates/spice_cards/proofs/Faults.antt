@@ -1,12 +1,9 @@
--- Faults of the words of a card.
-use Rattle.std.proofs.Common.{◌≡◌, ℕ, ◌+◌, ◌<◌, ◌≤◌, ℤ, Bool, true, false, if◌then◌else◌, List, [], ◌∷◌, length, get_or, Option, None, Some, Result, refl, sym, ◌∙◌, ap, arith}
+-- Where the faults of the words of a card stand, and that there is one.
+use Rattle.std.proofs.Common.{◌≡◌, ℕ, ◌+◌, ℤ, Bool, true, false, if◌then◌else◌, List, [], ◌∷◌, length, Option, Some, Result, refl, sym, ◌∙◌, ap, arith}
 use Rattle.number_place.specs.declared.place.NumberPlace.{NumberPlace}
 use Rattle.number_place.specs.declared.place.Refused.{Refused}
 use Rattle.number_place.specs.Place.{IsNumberAt}
 use Rattle.reading.specs.declared.refusal.Found.{Found}
-use Rattle.reading.specs.declared.word.Word.{Word}
-use Rattle.reading.specs.declared.word.Form.TheVariants.{Bare}
-use Rattle.reading.specs.Fault.{Finds, found_at}
 use Rattle.reading.specs.Word.{Token}
 use Rattle.spice_cards.specs.declared.error.CardsKind.{CardsKind}
 use Rattle.spice_cards.specs.declared.sort.Sort.{Sort}
@@ -15,45 +12,6 @@ use Rattle.spice_cards.specs.Sort.{sort_of}
 use Rattle.spice_cards.specs.Card.{is_dc_first, without_dc, value_at}
 use Rattle.spice_cards.specs.Number.{ohms, volts, amperes, farads}
 use Rattle.spice_cards.specs.Fault.{refused_by, source_by, low_by, high_by, AnswerFault, EndFault, ResistorFault, SourceFault, LoadFault, CapacitorFault, CardFault, fault}
-
--- ## words by their number
-
-abbrev pub no_word : Word
-no_word = record { text = record { ref_ptr = (0, 0); now = [] }; place = record { line = 0; word = 0 }; form = Bare }
-
-zero_words : (xs : List Word) → length xs < 1 → xs ≡ []
-zero_words [] h = refl
-zero_words (x ∷ xs) h = absurd (omega arith)
-
-pub one_word : (xs : List Word) → 1 ≤ length xs → length xs < 2 → xs ≡ get_or xs 0 no_word ∷ []
-one_word [] h k = absurd (omega arith)
-one_word (x ∷ xs) h k = ap (λ z. x ∷ z) (zero_words xs (omega arith))
-
-two_words : (xs : List Word) → 2 ≤ length xs → length xs < 3 → xs ≡ get_or xs 0 no_word ∷ get_or xs 1 no_word ∷ []
-two_words [] h k = absurd (omega arith)
-two_words (x ∷ xs) h k = ap (λ z. x ∷ z) (one_word xs (omega arith) (omega arith))
-
-pub three_words : (xs : List Word) → 3 ≤ length xs → length xs < 4 → xs ≡ get_or xs 0 no_word ∷ get_or xs 1 no_word ∷ get_or xs 2 no_word ∷ []
-three_words [] h k = absurd (omega arith)
-three_words (x ∷ xs) h k = ap (λ z. x ∷ z) (two_words xs (omega arith) (omega arith))
-
-pub four_words : (xs : List Word) → 4 ≤ length xs → length xs < 5 → xs ≡ get_or xs 0 no_word ∷ get_or xs 1 no_word ∷ get_or xs 2 no_word ∷ get_or xs 3 no_word ∷ []
-four_words [] h k = absurd (omega arith)
-four_words (x ∷ xs) h k = ap (λ z. x ∷ z) (three_words xs (omega arith) (omega arith))
-
--- ## a kind that is found
-
-pub found_shows : (n : ℕ) (shows : CardsKind → Type 0) (kind : Option CardsKind) → Finds shows kind →
-    Finds (λ (found : Found CardsKind). (found.at ≡ n) × shows found.kind) (found_at n kind)
-found_shows n shows None h = λ found k. h found.kind k.1
-found_shows n shows (Some kind) h = (refl, h)
-
--- Other numbers of words show no fault of a load.
-pub no_load : (at : ℕ) (words : List Token) (found : Found CardsKind) → LoadFault at words found → (length words ≡ 1 → ⊥) → (length words ≡ 3 → ⊥) → (length words ≡ 4 → ⊥) → ⊥
-no_load at (a ∷ []) found h one three four = one refl
-no_load at (a ∷ b ∷ c ∷ []) found h one three four = three refl
-no_load at (a ∷ b ∷ c ∷ d ∷ []) found h one three four = four refl
-no_load at words found h one three four = h
 
 -- ## where faults stand
 

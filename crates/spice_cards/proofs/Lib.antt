@@ -4,6 +4,8 @@ pub mod Holding
 pub mod Faults
 pub mod Law
 pub mod Ranges
+pub mod Keywords
+pub mod Values
 pub mod Taking
 pub mod Reading
 pub mod Numbers

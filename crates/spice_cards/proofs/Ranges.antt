@@ -1,5 +1,5 @@
 -- The ranges of loads go up, and numbers are kept by the machine.
-use Rattle.std.proofs.Common.{◌≡◌, ℕ, ◌^◌, ◌≤◌, ℤ, ◌≤ℤ◌, Bool, true, false, if◌then◌else◌, List, [], ◌∷◌, All, Option, Some, None, sym, ap, subst, arith, to_z, of_z}
+use Rattle.std.proofs.Common.{◌≡◌, ◌∙◌, ℕ, ◌^◌, ◌≤◌, ℤ, ◌≤ℤ◌, Bool, true, false, if◌then◌else◌, List, [], ◌∷◌, All, Option, Some, None, sym, ap, subst, arith, to_z, of_z}
 use Rattle.std.specs.Prelude.{unsigned_abs, neg_ℤ, flat_map}
 use Rattle.std.specs.Int.{w64, w128}
 use Rattle.std.specs.Int.Signed.{lt_z, lt_z_no}
@@ -21,6 +21,13 @@ kept_128 v n limit h = to_z-of_z w128 v (fits_signed_from_abs w128 v (omega arit
 
 pub kept_64 : (v : ℤ) → unsigned_abs v ≤ 10 ^ 18 → to_z w64 (of_z w64 v) ≡ v
 kept_64 v h = to_z-of_z w64 v (fits_signed_from_abs w64 v (omega arith))
+
+turned_abs : (v : ℤ) → unsigned_abs (neg_ℤ v) ≡ unsigned_abs v
+turned_abs v = omega (arith, ints)
+
+-- Minus a number that is far within its width, as the machine keeps it.
+pub kept_turned : (v turned : ℤ) → unsigned_abs v ≤ 10 ^ 30 → turned ≡ neg_ℤ v → to_z w128 (of_z w128 turned) ≡ neg_ℤ v
+kept_turned v turned h e = ap (λ z. to_z w128 (of_z w128 z)) e ∙ kept_128 (neg_ℤ v) (10 ^ 30) (omega arith) (omega (arith, h, turned_abs v))
 
 -- What the test of two kept numbers tells.
 pub not_less : (a b kept_a kept_b : ℤ) → kept_a ≡ a → kept_b ≡ b → lt_z kept_a kept_b ≡ false → b ≤ℤ a

@@ -1,38 +1,19 @@
 -- One more card.
-use Rattle.std.proofs.Common.{◌≡◌, ◌↔◌, ℕ, ◌<◌, ◌≤◌, ℤ, ◌≤ℤ◌, Bool, true, false, if◌then◌else◌, List, [], ◌∷◌, ◌++◌, map, length, Contains, Option, None, Some, Result, Ok, Err, OnOk, refl, sym, ◌∙◌, ap, subst, append_assoc, arith}
-use Rattle.std.specs.Prelude.{neg_ℤ, option_map}
-use Rattle.std.specs.declared.alloc.AllocError.{AllocError}
+use Rattle.std.proofs.Common.{◌≡◌, ◌↔◌, ◌||◌, ℕ, ◌≤◌, ◌^◌, ℤ, pos, Bool, true, false, if◌then◌else◌, List, [], ◌++◌, Contains, Option, None, Some, Ok, refl, sym, ◌∙◌, ap, subst, append_assoc}
+use Rattle.std.specs.Prelude.{neg_ℤ, unsigned_abs}
 use Rattle.std.proofs.lemmas.List.{append-nil}
 use Rattle.entry_list.specs.InTurn.{InTurn}
-use Rattle.name_table.specs.Numbering.{AreDistinct}
+use Rattle.name_table.specs.Numbering.{AreDistinct, TakesName}
+use Rattle.node_names.specs.Folding.{folded}
 use Rattle.number_place.specs.Place.{IsNumberAt}
-use Rattle.reading.specs.declared.refusal.Found.{Found}
-use Rattle.reading.specs.declared.word.Word.{Word}
-use Rattle.reading.specs.Word.{Token, token}
-use Rattle.spice_cards.specs.declared.card.Ends.{Ends as SourceEnds}
-use Rattle.spice_cards.specs.declared.error.CardsKind.{CardsKind}
 use Rattle.spice_cards.specs.declared.record.Cards.{Cards}
-use Rattle.spice_cards.specs.Card.{Card, Source, Load, Ends, ends_in, is_ground, card_of}
-use Rattle.spice_cards.specs.Fault.{is_zero, fault}
+use Rattle.spice_cards.specs.Card.{Source, Load, Ends, is_ground}
+use Rattle.spice_cards.specs.Fault.{is_zero}
 use Rattle.spice_cards.specs.Number.{volts, amperes}
-use Rattle.spice_cards.specs.Record.{pad_part, SaysSource, source_nodes, short_part, resistor_part, load_part, SaysCapacitor, SaysCards, IsRange, but_ground, LoadsNode}
-use Rattle.spice_cards.specs.inside.Held.{Adds, AddsPad, AddsLoad, TakesNames}
+use Rattle.spice_cards.specs.Record.{HasNumber, pad_part, SaysSource, source_nodes, short_part, resistor_part, load_part, SaysCapacitor, SaysCards, IsRange, but_ground, LoadsNode}
+use Rattle.spice_cards.specs.inside.Held.{Adds, AddsPad, AddsShort, AddsLoad, TakesNames}
 use Rattle.spice_cards.proofs.Lists.{all-grow, all-joined}
 use Rattle.spice_cards.proofs.Says.{loads-more}
-
--- ## units that are no card and show no fault
-
-pub short_no_card : (xs : List Word) → length xs < 3 → ◌≡◌ {A = Option Card} None (card_of (map token xs))
-short_no_card [] h = refl
-short_no_card (a ∷ []) h = refl
-short_no_card (a ∷ b ∷ []) h = refl
-short_no_card (a ∷ b ∷ c ∷ xs) h = absurd (omega arith)
-
-pub two_fine : (units : List (List Token)) (xs : List Word) (found : Found CardsKind) → 2 ≤ length xs → length xs < 3 → fault units (map token xs) found → ⊥
-two_fine units [] found h k f = absurd (omega arith)
-two_fine units (a ∷ []) found h k f = absurd (omega arith)
-two_fine units (a ∷ b ∷ []) found h k f = f
-two_fine units (a ∷ b ∷ c ∷ xs) found h k f = absurd (omega arith)
 
 -- ## nothing read
 
@@ -63,26 +44,25 @@ other_part zero v k m n e same is =
 
 -- ## loads
 
-pub range_held : (range : Option SourceEnds) (ends : SourceEnds) (v low high kept_low kept_high : ℤ) → range ≡ Some ends →
-    IsNumberAt amperes ends.low.now (Ok low) → IsNumberAt amperes ends.high.now (Ok high) → kept_low ≡ low → kept_high ≡ high →
-    low ≤ℤ v → v ≤ℤ high → IsRange (option_map ends_in range) v kept_low kept_high
-range_held range ends v low high kept_low kept_high is is_low is_high same_low same_high above below =
-    subst (λ z. IsRange (option_map ends_in z) v kept_low kept_high) (sym is)
-    (subst (λ z. IsRange (Some (ends_in ends)) v z kept_high) (sym same_low)
-    (subst (λ z. IsRange (Some (ends_in ends)) v low z) (sym same_high) (is_low, is_high, above, below)))
+-- A range is within the limit of currents.
+pub range_within : (text : List ℕ) (ends : Option Ends) (v low high : ℤ) → IsNumberAt amperes text (Ok v) → IsRange ends v low high → (unsigned_abs low ≤ 10 ^ 18) × (unsigned_abs high ≤ 10 ^ 18)
+range_within text None v low high is h = (
+  subst (λ z. unsigned_abs z ≤ 10 ^ 18) (sym h.0) is.1.2.within,
+  subst (λ z. unsigned_abs z ≤ 10 ^ 18) (sym h.1) is.1.2.within,
+)
+range_within text (Some ends) v low high is h = (h.0.1.2.within, h.1.1.2.within)
 
-pub load_adds : (a b value : List ℕ) (range : Option Ends) (v kept low high back_low back_high : ℤ) (old mid new : Cards) (r : Result (Unit {0}) AllocError) →
-    IsNumberAt amperes value (Ok v) → kept ≡ v → IsRange range kept low high → back_low ≡ neg_ℤ high → back_high ≡ neg_ℤ low →
-    AddsLoad a low high old mid → OnOk r (AddsLoad b back_low back_high mid new) → OnOk r (Adds (Load a b value range) old new)
-load_adds a b value range v kept low high back_low back_high old mid new (Err e) is same ranges turned_low turned_high h k = tt
-load_adds a b value range v kept low high back_low back_high old mid new (Ok x) is same ranges turned_low turned_high h k = record {
+pub load_adds : (a b value : List ℕ) (range : Option Ends) (v low high back_low back_high : ℤ) (old mid new : Cards) →
+    IsNumberAt amperes value (Ok v) → IsRange range v low high → back_low ≡ neg_ℤ high → back_high ≡ neg_ℤ low →
+    AddsLoad a low high old mid → AddsLoad b back_low back_high mid new → Adds (Load a b value range) old new
+load_adds a b value range v low high back_low back_high old mid new is ranges turned_low turned_high h k = record {
   part = load_part (h.loads ++ k.loads);
   says = (
     v,
     low,
     high,
     is,
-    subst (λ z. IsRange range z low high) same ranges,
+    ranges,
     (
       h.loads,
       k.loads,
@@ -105,18 +85,41 @@ load_adds a b value range v kept low high back_low back_high old mid new (Ok x) 
 
 -- ## pads
 
--- A source against `0` as its first node.
-pub turned_adds : (a b value : List ℕ) (v kept : ℤ) (old new : Cards) (r : Result (Unit {0}) AllocError) → is_ground a ≡ true → is_ground b ≡ false →
-    IsNumberAt volts value (Ok v) → kept ≡ v → OnOk r (AddsPad b (neg_ℤ kept) old new) → OnOk r (Adds (Source a b value) old new)
-turned_adds a b value v kept old new (Err e) first second is same h = tt
-turned_adds a b value v kept old new (Ok x) first second is same h = record {
-  part = pad_part h.node (neg_ℤ kept);
+says_first : (first : Bool) (names : List (List ℕ)) (a b : List ℕ) (v : ℤ) (n : ℕ) → HasNumber names a n → SaysSource first true names a b v (pad_part n v)
+says_first true names a b v n h = (n, h, refl)
+says_first false names a b v n h = (n, h, refl)
+
+names_first : (first : Bool) (old new : List (List ℕ)) (a b : List ℕ) → TakesName old new (folded a) → TakesNames old (source_nodes first true a b) new
+names_first true old new a b h = (new, h, refl)
+names_first false old new a b h = (new, h, refl)
+
+-- A source against `0` as its second node.
+pub pad_adds : (a b value : List ℕ) (v kept : ℤ) (old new : Cards) → is_ground b ≡ true → IsNumberAt volts value (Ok v) → kept ≡ v → AddsPad a kept old new → Adds (Source a b value) old new
+pad_adds a b value v kept old new second is same h = record {
+  part = pad_part h.node kept;
   says = (
     v,
     is,
-    subst (λ z. SaysSource z (is_ground b) new.names a b v (pad_part h.node (neg_ℤ kept))) (sym first)
-        (subst (λ z. SaysSource true z new.names a b v (pad_part h.node (neg_ℤ kept))) (sym second)
-        (h.node, h.says, ap (λ z. pad_part h.node (neg_ℤ z)) same)),
+    subst (λ z. SaysSource (is_ground a) z new.names a b v (pad_part h.node kept)) (sym second)
+        (subst (λ z. SaysSource (is_ground a) true new.names a b v (pad_part h.node z)) (sym same) (says_first (is_ground a) new.names a b v h.node h.says)),
+  );
+  names = subst (λ z. TakesNames old.names (source_nodes (is_ground a) z a b) new.names) (sym second) (names_first (is_ground a) old.names new.names a b h.names);
+  distinct = λ d. h.distinct;
+  lists = h.lists;
+  caps = h.caps;
+}
+
+-- A source against `0` as its first node.
+pub turned_adds : (a b value : List ℕ) (v kept : ℤ) (old new : Cards) → is_ground a ≡ true → is_ground b ≡ false → IsNumberAt volts value (Ok v) → kept ≡ neg_ℤ v →
+    AddsPad b kept old new → Adds (Source a b value) old new
+turned_adds a b value v kept old new first second is same h = record {
+  part = pad_part h.node kept;
+  says = (
+    v,
+    is,
+    subst (λ z. SaysSource z (is_ground b) new.names a b v (pad_part h.node kept)) (sym first)
+        (subst (λ z. SaysSource true z new.names a b v (pad_part h.node kept)) (sym second)
+        (h.node, h.says, ap (λ z. pad_part h.node z) same)),
   );
   names = subst (λ z. TakesNames old.names (source_nodes z (is_ground b) a b) new.names) (sym first)
       (subst (λ z. TakesNames old.names (source_nodes true z a b) new.names) (sym second) (new.names, h.names, refl));
@@ -124,3 +127,26 @@ turned_adds a b value v kept old new (Ok x) first second is same h = record {
   lists = h.lists;
   caps = h.caps;
 }
+
+-- A source between two other nodes.
+pub short_adds : (a b value : List ℕ) (v : ℤ) (old new : Cards) → is_ground a ≡ false → is_ground b ≡ false → IsNumberAt volts value (Ok v) → v ≡ pos 0 →
+    AddsShort a b old new → Adds (Source a b value) old new
+short_adds a b value v old new first second is zero h = record {
+  part = short_part h.m h.n;
+  says = (
+    v,
+    is,
+    subst (λ z. SaysSource z (is_ground b) new.names a b v (short_part h.m h.n)) (sym first)
+        (subst (λ z. SaysSource false z new.names a b v (short_part h.m h.n)) (sym second) (h.m, h.n, h.first, h.second, zero, refl)),
+  );
+  names = subst (λ z. TakesNames old.names (source_nodes z (is_ground b) a b) new.names) (sym first)
+      (subst (λ z. TakesNames old.names (source_nodes false z a b) new.names) (sym second) h.names);
+  distinct = λ d. h.distinct;
+  lists = h.lists;
+  caps = h.caps;
+}
+
+-- Neither node of a source is `0`.
+pub neither : (a b : Bool) → a ≡ false → b ≡ false → (a || b) ≡ false
+neither false b h k = k
+neither true b h k = absurd (let t : true ≡ false = h in cc)

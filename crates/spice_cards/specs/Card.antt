@@ -1,9 +1,6 @@
 -- The cards of a netlist, taken apart.
-use Rattle.std.specs.Prelude.{ℕ, Bool, false, List, [], ◌∷◌, codes, Option, Some, None, option_map, filter_map, if◌then◌else◌}
+use Rattle.std.specs.Prelude.{ℕ, Bool, false, List, [], ◌∷◌, codes, Option, Some, None, filter_map, if◌then◌else◌}
 use Rattle.std.specs.Str.{bytes_eq}
-use Rattle.spice_cards.specs.declared.card.Card.{Card as SourceCard}
-use Rattle.spice_cards.specs.declared.card.Card.TheVariants as cards
-use Rattle.spice_cards.specs.declared.card.Ends.{Ends as SourceEnds}
 use Rattle.spice_cards.specs.declared.sort.Sort.{Sort}
 use Rattle.spice_cards.specs.declared.sort.Sort.TheVariants as sorts
 use Rattle.spice_cards.specs.Sort.{sort_of, the}
@@ -26,15 +23,6 @@ pub record CapacitorCard : Type 0 where
   pub a : List ℕ
   pub b : List ℕ
   pub value : List ℕ
-
-abbrev pub ends_in : SourceEnds → Ends
-ends_in ends = record { low = ends.low.now; high = ends.high.now }
-
-abbrev pub card_in : SourceCard → Card
-card_in (cards.Resistor a b value) = Resistor a.now b.now value.now
-card_in (cards.Source a b value) = Source a.now b.now value.now
-card_in (cards.Load a b value range) = Load a.now b.now value.now (option_map ends_in range)
-card_in (cards.Capacitor a b value) = Capacitor a.now b.now value.now
 
 -- The name `0`, against which sources and loads are given.
 abbrev pub is_ground : List ℕ → Bool

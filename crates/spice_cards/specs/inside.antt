@@ -1,2 +1,4 @@
+pub mod Keyword
+pub mod Value
 pub mod Held
 pub mod Told

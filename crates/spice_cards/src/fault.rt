@@ -1,19 +1,25 @@
-//! The faults that the words of a card show.
-ghost use Rattle.std.specs.Prelude.{◌≡◌, ◌≤◌, map, int_lt};
-ghost use Rattle.spice_cards.specs.Fault.{is_zero as zero_value, refused_kind, refused_by, floating_by, low_by, high_by, AnswerFault, EndFault, is_strange as strange_sort, FirstFault, source_by, ResistorFault, SourceFault, LoadFault, CapacitorFault, CardFault};
+//! What the words of a card say, and the faults that they show.
+ghost use Rattle.std.specs.Prelude.{◌≡◌, ◌≤◌, ◌&&◌, ◌||◌, ℕ, List, map, [], ◌∷◌, ◌++◌, Some, Ok, Err};
+ghost use Rattle.spice_cards.specs.Fault.{is_zero as zero_value, refused_kind as kind_of_refused, refused_by, floating_by, source_by, AnswerFault, EndFault, low_by, high_by, is_strange as strange_sort, FirstFault, ResistorFault, SourceFault, LoadFault, CapacitorFault, CardFault};
+ghost use Rattle.spice_cards.specs.Card.{is_ground as ground_name};
 ghost use Rattle.spice_cards.specs.Number.{volts, amperes};
-ghost use Rattle.number_place.specs.Place.{CanRead};
-ghost use Rattle.reading.specs.Fault.{Finds};
-ghost use Rattle.reading.specs.Word.{token};
+ghost use Rattle.spice_cards.specs.Sort.{the, sort_of};
+ghost use Rattle.spice_cards.specs.declared.sort.Sort.TheVariants as sorts;
+ghost use Rattle.spice_cards.specs.inside.Value.{letter_of, IsWide, IsSmall, IsFloating, IsVolts, IsLow, IsHigh, SaysOhms, SaysVolts, SaysAmperes, SaysFarads, SaysWord, has_none};
+ghost use Rattle.number_place.specs.Place.{CanRead, IsNumberAt};
+ghost use Rattle.reading.specs.Fault.{FindsValue};
+ghost use Rattle.reading.specs.Grammar.{AreHeard};
+ghost use Rattle.reading.specs.Word.{token, heard_token};
 
 use crate::card::{is_ground, value_at, without_dc};
 use crate::error::CardsKind;
 use crate::number::{AMPERES, FARADS, OHMS, VOLTS};
 use crate::section::Section;
-use crate::sort::Sort;
+use crate::sort::{Sort, is};
+use crate::value::Value;
 use fixed_decimal::DecimalError;
-use number_place::{NumberPlace, Refused, number_at};
-use reading::{Found, Word, found_at};
+use number_place::{NumberPlace, Refused, number_at, small_number_at, texts_have_one_number};
+use reading::{Found, Heard, Word, told_at};
 
 /// Whether a value is 0.
 pub(crate) fn is_zero(value: i128) -> bool
@@ -24,7 +30,7 @@ pub(crate) fn is_zero(value: i128) -> bool
 
 /// The kind of a number that is refused.
 fn refused_kind(refused: Refused) -> CardsKind
-    ensures { result ≡ refused_kind refused }
+    ensures { result ≡ kind_of_refused refused }
 {
     match refused {
         Refused::Syntax => CardsKind::Syntax,
@@ -32,114 +38,103 @@ fn refused_kind(refused: Refused) -> CardsKind
     }
 }
 
-/// Why a value is refused.
-fn refused_by(answer: Result<i128, Refused>) -> Option<CardsKind>
-    ensures { result ≡ refused_by answer }
+/// Ohms, volts or farads in the place, or why the text is refused there.
+fn wide_at(place: NumberPlace, text: &[u8]) -> Result<Value, CardsKind>
+    requires { CanRead place }
+    ensures { FindsValue (AnswerFault place refused_by text.now) (IsWide place text.now) result }
 {
-    match answer {
-        Ok(_) => None,
-        Err(refused) => Some(refused_kind(refused)),
+    match number_at(place, text) {
+        Ok(value) => Ok(Value::Wide(value)),
+        Err(refused) => Err(refused_kind(refused)),
     }
 }
 
-/// Why the value of a source between two nodes other than `0` is refused.
-fn floating_by(answer: Result<i128, Refused>) -> Option<CardsKind>
-    ensures { result ≡ floating_by answer }
+/// Amperes, or why the text is refused as such.
+fn small_value(text: &[u8]) -> Result<Value, CardsKind>
+    ensures { FindsValue (AnswerFault amperes refused_by text.now) (IsSmall amperes text.now) result }
 {
-    match answer {
+    match small_number_at(AMPERES, text) {
+        Ok(value) => Ok(Value::Small(value)),
+        Err(refused) => Err(refused_kind(refused)),
+    }
+}
+
+/// The kind of a number that is refused as the value of a source between two nodes other than `0`.
+fn floating_kind(refused: Refused) -> CardsKind
+    ensures { floating_by (Err refused) ≡ Some result }
+{
+    match refused {
+        Refused::Number(DecimalError::Vanishes | DecimalError::Range) => CardsKind::FloatingSource,
+        _ => refused_kind(refused),
+    }
+}
+
+/// The volts of a source between two nodes other than `0`, or why the text is refused there.
+fn floating_value(text: &[u8]) -> Result<Value, CardsKind>
+    ensures { FindsValue (AnswerFault volts floating_by text.now) (IsFloating text.now) result }
+{
+    match number_at(VOLTS, text) {
         Ok(value) => {
             if is_zero(value) {
-                None
+                Ok(Value::Wide(value))
             } else {
-                Some(CardsKind::FloatingSource)
+                Err(CardsKind::FloatingSource)
             }
         }
-        Err(Refused::Number(DecimalError::Vanishes | DecimalError::Range)) => {
-            Some(CardsKind::FloatingSource)
-        }
-        Err(refused) => Some(refused_kind(refused)),
+        Err(refused) => Err(floating_kind(refused)),
     }
 }
 
-/// Why the value of a source with these nodes is refused.
-fn source_by(a: &[u8], b: &[u8], answer: Result<i128, Refused>) -> Option<CardsKind>
-    ensures { result ≡ source_by a.now b.now answer }
+/// Whether one of the nodes of a source is `0`.
+fn is_grounded(a: &[u8], b: &[u8]) -> bool
+    ensures { result ≡ (ground_name a.now || ground_name b.now) }
 {
-    if is_ground(a) || is_ground(b) {
-        refused_by(answer)
+    is_ground(a) || is_ground(b)
+}
+
+/// The volts of a source with these nodes, or why the text is refused there.
+fn volts_value(a: &[u8], b: &[u8], text: &[u8]) -> Result<Value, CardsKind>
+    ensures { FindsValue (AnswerFault volts (source_by a.now b.now) text.now) (IsVolts a.now b.now text.now) result }
+{
+    if is_grounded(a, b) {
+        wide_at(VOLTS, text)
     } else {
-        floating_by(answer)
+        floating_value(text)
     }
 }
 
-/// Whether a value is below another.
-fn is_below(a: i128, b: i128) -> bool
-    ensures { result ≡ int_lt a b }
+/// The low end of the range of a load with this value, or why the text is refused there.
+fn low_value(value: i64, text: &[u8]) -> Result<Value, CardsKind>
+    ensures { (before : List ℕ) → IsNumberAt amperes before (Ok value) →
+        FindsValue (EndFault low_by before text.now) (IsLow before text.now) result }
 {
-    a < b
-}
-
-/// Why the low end of a load's range is refused.
-fn low_by(value: Result<i128, Refused>, answer: Result<i128, Refused>) -> Option<CardsKind>
-    ensures { result ≡ low_by value answer }
-{
-    match (value, answer) {
-        (Ok(value), Ok(low)) => {
-            if is_below(value, low) {
-                Some(CardsKind::OutOfRange)
-            } else {
-                None
+    texts_have_one_number();
+    match small_number_at(AMPERES, text) {
+        Ok(low) => {
+            if value < low {
+                return Err(CardsKind::OutOfRange);
             }
+            Ok(Value::Small(low))
         }
-        (Ok(_), Err(refused)) => Some(refused_kind(refused)),
-        (Err(_), _) => None,
+        Err(refused) => Err(refused_kind(refused)),
     }
 }
 
-/// Why the high end of a load's range is refused.
-fn high_by(value: Result<i128, Refused>, answer: Result<i128, Refused>) -> Option<CardsKind>
-    ensures { result ≡ high_by value answer }
+/// The high end of the range of a load with this value, or why the text is refused there.
+fn high_value(value: i64, text: &[u8]) -> Result<Value, CardsKind>
+    ensures { (before : List ℕ) → IsNumberAt amperes before (Ok value) →
+        FindsValue (EndFault high_by before text.now) (IsHigh before text.now) result }
 {
-    match (value, answer) {
-        (Ok(value), Ok(high)) => {
-            if is_below(high, value) {
-                Some(CardsKind::OutOfRange)
-            } else {
-                None
+    texts_have_one_number();
+    match small_number_at(AMPERES, text) {
+        Ok(high) => {
+            if high < value {
+                return Err(CardsKind::OutOfRange);
             }
+            Ok(Value::Small(high))
         }
-        (Ok(_), Err(refused)) => Some(refused_kind(refused)),
-        (Err(_), _) => None,
+        Err(refused) => Err(refused_kind(refused)),
     }
-}
-
-/// Why the text is refused in the place.
-fn number_fault(place: NumberPlace, text: &[u8]) -> Option<CardsKind>
-    requires { CanRead place }
-    ensures { Finds (AnswerFault place refused_by text.now) result }
-{
-    refused_by(number_at(place, text))
-}
-
-/// Why the text is refused as the value of a source with these nodes.
-fn volts_fault(a: &[u8], b: &[u8], text: &[u8]) -> Option<CardsKind>
-    ensures { Finds (AnswerFault volts (source_by a.now b.now) text.now) result }
-{
-    source_by(a, b, number_at(VOLTS, text))
-}
-
-/// Why the text is refused as the low end of the range of a load with this value.
-fn low_fault(value: &[u8], text: &[u8]) -> Option<CardsKind>
-    ensures { Finds (EndFault low_by value.now text.now) result }
-{
-    low_by(number_at(AMPERES, value), number_at(AMPERES, text))
-}
-
-/// Why the text is refused as the high end of the range of a load with this value.
-fn high_fault(value: &[u8], text: &[u8]) -> Option<CardsKind>
-    ensures { Finds (EndFault high_by value.now text.now) result }
-{
-    high_by(number_at(AMPERES, value), number_at(AMPERES, text))
 }
 
 /// Whether a word begins a card or a dot line other than those that are read.
@@ -152,73 +147,135 @@ fn is_strange(sort: Sort) -> bool
     }
 }
 
-/// Why the first word of a unit is refused.
-pub(crate) fn first_fault(section: Section, sort: Sort) -> Option<CardsKind>
-    ensures { Finds (FirstFault section sort) result }
+/// What the first word of a unit says, or why it is refused.
+pub(crate) fn first_value(section: Section, sort: Sort) -> Result<Value, CardsKind>
+    ensures { FindsValue (FirstFault section sort) (λ said. letter_of said ≡ sort) result }
 {
     match section {
-        Section::Cards if is_strange(sort) => Some(CardsKind::OutOfProfileCard),
-        _ => None,
+        Section::Cards if is_strange(sort) => Err(CardsKind::OutOfProfileCard),
+        _ => Ok(Value::First(sort)),
     }
 }
 
-/// The fault that the words after the nodes of a resistor show.
-fn resistor_fault(words: &[Word<'_>]) -> Option<Found<CardsKind>>
-    ensures { Finds (ResistorFault (map token words.now)) result }
+/// What the word says after these words after the nodes of a resistor, or its fault.
+fn ohms_word(before: &[Heard<'_, Value>], word: &Word<'_>) -> Result<Value, Found<CardsKind>>
+    ensures { FindsValue (ResistorFault (map heard_token before.now ++ token word.now ∷ []))
+        (SaysOhms (map heard_token before.now ++ token word.now ∷ [])) result }
 {
-    match words {
-        [value] => found_at(3, number_fault(OHMS, value.text)),
-        _ => None,
+    match before {
+        [] => told_at(3, wide_at(OHMS, word.text)),
+        _ => Ok(Value::Nothing),
     }
 }
 
-/// The fault that the words after the nodes of a source show, where so many stand before its value.
-fn source_fault(a: &[u8], b: &[u8], at: usize, words: &[Word<'_>]) -> Option<Found<CardsKind>>
-    ensures { Finds (SourceFault a.now b.now at (map token words.now)) result }
+/// The same after the nodes of a source, where so many words stand before its value.
+fn volts_word(
+    a: &[u8],
+    b: &[u8],
+    at: usize,
+    before: &[Heard<'_, Value>],
+    word: &Word<'_>,
+) -> Result<Value, Found<CardsKind>>
+    ensures { FindsValue (SourceFault a.now b.now at (map heard_token before.now ++ token word.now ∷ []))
+        (SaysVolts a.now b.now (map heard_token before.now ++ token word.now ∷ [])) result }
 {
-    match words {
-        [value] => found_at(at, volts_fault(a, b, value.text)),
-        _ => None,
+    match before {
+        [] => told_at(at, volts_value(a, b, word.text)),
+        _ => Ok(Value::Nothing),
     }
 }
 
-/// The fault that the words after the nodes of a load show, where so many stand before its value.
-fn load_fault(at: usize, words: &[Word<'_>]) -> Option<Found<CardsKind>>
+/// The same after the nodes of a load, where so many words stand before its value.
+fn amperes_word(
+    at: usize,
+    before: &[Heard<'_, Value>],
+    word: &Word<'_>,
+) -> Result<Value, Found<CardsKind>>
     requires { at ≤ 4 }
-    ensures { Finds (LoadFault at (map token words.now)) result }
+    ensures { AreHeard SaysAmperes [] before.now →
+        FindsValue (LoadFault at (map heard_token before.now ++ token word.now ∷ []))
+        (SaysAmperes (map heard_token before.now ++ token word.now ∷ [])) result }
 {
-    match words {
-        [value] => found_at(at, number_fault(AMPERES, value.text)),
-        [value, _, low] => found_at(at + 2, low_fault(value.text, low.text)),
-        [value, _, _, high] => found_at(at + 3, high_fault(value.text, high.text)),
-        _ => None,
+    match before {
+        [] => told_at(at, small_value(word.text)),
+        [value, _] => told_at(at + 2, low_value(value.value.small(), word.text)),
+        [value, _, _] => told_at(at + 3, high_value(value.value.small(), word.text)),
+        _ => Ok(Value::Nothing),
     }
 }
 
-/// The fault that the words after the ends of a capacitor show.
-fn capacitor_fault(words: &[Word<'_>]) -> Option<Found<CardsKind>>
-    ensures { Finds (CapacitorFault (map token words.now)) result }
+/// The same after the ends of a capacitor.
+fn farads_word(before: &[Heard<'_, Value>], word: &Word<'_>) -> Result<Value, Found<CardsKind>>
+    ensures { FindsValue (CapacitorFault (map heard_token before.now ++ token word.now ∷ []))
+        (SaysFarads (map heard_token before.now ++ token word.now ∷ [])) result }
 {
-    match words {
-        [value] => found_at(3, number_fault(FARADS, value.text)),
-        _ => None,
+    match before {
+        [] => told_at(3, wide_at(FARADS, word.text)),
+        _ => Ok(Value::Nothing),
     }
 }
 
-/// The fault that the words after the nodes of a card with this letter show.
-pub(crate) fn card_fault(
+/// Whether this word of this sort after these words after the nodes is `DC` before a value.
+fn is_dc_word(before: &[Heard<'_, Value>], sort: Sort) -> bool
+    ensures { result ≡ (has_none before.now && the sorts.Dc sort) }
+{
+    before.is_empty() && is(Sort::Dc, sort)
+}
+
+/// The same after the nodes of a source, with `DC` or without.
+fn source_word(
+    a: &[u8],
+    b: &[u8],
+    before: &[Heard<'_, Value>],
+    word: &Word<'_>,
+    sort: Sort,
+) -> Result<Value, Found<CardsKind>>
+    ensures { AreHeard (SaysWord sorts.Source a.now b.now) [] before.now → sort ≡ sort_of (token word.now) →
+        FindsValue (CardFault sorts.Source a.now b.now (map heard_token before.now ++ token word.now ∷ []))
+        (SaysWord sorts.Source a.now b.now (map heard_token before.now ++ token word.now ∷ [])) result }
+{
+    if is_dc_word(before, sort) {
+        Ok(Value::Dc)
+    } else {
+        volts_word(a, b, value_at(before), without_dc(before), word)
+    }
+}
+
+/// The same after the nodes of a load, with `DC` or without.
+fn load_word(
+    before: &[Heard<'_, Value>],
+    word: &Word<'_>,
+    sort: Sort,
+) -> Result<Value, Found<CardsKind>>
+    ensures { (a b : List ℕ) → AreHeard (SaysWord sorts.Load a b) [] before.now → sort ≡ sort_of (token word.now) →
+        FindsValue (CardFault sorts.Load a b (map heard_token before.now ++ token word.now ∷ []))
+        (SaysWord sorts.Load a b (map heard_token before.now ++ token word.now ∷ [])) result }
+{
+    if is_dc_word(before, sort) {
+        Ok(Value::Dc)
+    } else {
+        amperes_word(value_at(before), without_dc(before), word)
+    }
+}
+
+/// The same after the nodes of a card with this letter.
+pub(crate) fn card_word(
     letter: Sort,
     a: &[u8],
     b: &[u8],
-    words: &[Word<'_>],
-) -> Option<Found<CardsKind>>
-    ensures { Finds (CardFault letter a.now b.now (map token words.now)) result }
+    before: &[Heard<'_, Value>],
+    word: &Word<'_>,
+    sort: Sort,
+) -> Result<Value, Found<CardsKind>>
+    ensures { AreHeard (SaysWord letter a.now b.now) [] before.now → sort ≡ sort_of (token word.now) →
+        FindsValue (CardFault letter a.now b.now (map heard_token before.now ++ token word.now ∷ []))
+        (SaysWord letter a.now b.now (map heard_token before.now ++ token word.now ∷ [])) result }
 {
     match letter {
-        Sort::Resistor => resistor_fault(words),
-        Sort::Source => source_fault(a, b, value_at(words), without_dc(words)),
-        Sort::Load => load_fault(value_at(words), without_dc(words)),
-        Sort::Capacitor => capacitor_fault(words),
-        _ => None,
+        Sort::Resistor => ohms_word(before, word),
+        Sort::Source => source_word(a, b, before, word, sort),
+        Sort::Load => load_word(before, word, sort),
+        Sort::Capacitor => farads_word(before, word),
+        _ => Ok(Value::Nothing),
     }
 }

@@ -1,27 +1,27 @@
 //! What has been read of a netlist.
-//!
-//! A number of a whole card has shown no fault, so that it can be read, and a source between two nodes has the value 0. Where it were not so,
-//! the answer is want of memory, which no clause ties to anything; it never comes.
-ghost use Rattle.std.specs.Prelude.{◌≡◌, ◌≤◌, ◌≤ℤ◌, ◌^◌, ℤ, pos, neg_ℤ, true, [], ◌∷◌, ◌++◌, All, IfOk, OnOk, Ok, List, map, option_map, unsigned_abs};
+ghost use Rattle.std.specs.Prelude.{◌≡◌, ◌≤◌, ◌≤ℤ◌, ◌^◌, ◌||◌, ℕ, ℤ, pos, neg_ℤ, false, [], ◌∷◌, ◌++◌, All, IfOk, OnOk, Ok, List, map, Option, unsigned_abs};
 ghost use Rattle.name_table.specs.Numbering.{TakesName, AreDistinct};
 ghost use Rattle.node_names.specs.Folding.{folded};
-ghost use Rattle.number_place.specs.Place.{CanRead, IsNumberAt};
-ghost use Rattle.reading.specs.Word.{Token, token};
-ghost use Rattle.spice_cards.specs.Card.{Resistor as ResistorCard, Source as SourceCard, Load as LoadCard, Capacitor as CapacitorCard, card_in, card_of as card_in_unit, ends_in};
-ghost use Rattle.spice_cards.specs.Number.{amperes, IsCapacitance};
+ghost use Rattle.number_place.specs.Place.{IsNumberAt};
+ghost use Rattle.reading.specs.Grammar.{AreHeard};
+ghost use Rattle.reading.specs.Word.{Token, heard_token};
+ghost use Rattle.spice_cards.specs.Card.{Resistor as ResistorCard, Source as SourceCard, Load as LoadCard, Capacitor as CapacitorCard, Ends, resistor_with, source_with, load_with, capacitor_with, card_with, card_of as card_in_unit};
+ghost use Rattle.spice_cards.specs.Number.{ohms as ohms_place, volts as volts_place, amperes, farads as farads_place, IsCapacitance};
 ghost use Rattle.spice_cards.specs.Record.{HasNumber, SaysCards, AreNumbered, IsRange, LoadsNode, but_ground};
 ghost use Rattle.spice_cards.specs.Card.{is_ground as ground_name};
 ghost use Rattle.spice_cards.specs.inside.Held.{Holds, Adds, AddsUnit, AddsPad, AddsShort, AddsLoad};
+ghost use Rattle.spice_cards.specs.inside.Value.{SaysOhms, SaysVolts, SaysAmperes, SaysFarads, SaysWord, says};
 
-use crate::card::{Card, Ends, card_of, is_ground};
+use crate::card::{is_ground, without_dc};
 use crate::fault::is_zero;
-use crate::number::{AMPERES, FARADS, OHMS, VOLTS};
 use crate::record::{Capacitor, Cards};
 use crate::section::Section;
+use crate::sort::Sort;
+use crate::value::Value;
 use grid_net::{Load, Pad, Resistor};
 use node_names::NodeNames;
-use number_place::{NumberPlace, number_at, small_number_at, values_fit_their_places};
-use reading::Word;
+use number_place::values_fit_their_places;
+use reading::Heard;
 use std::alloc::{AllocError, Global};
 
 /// What the units so far say, and where the next one stands.
@@ -62,29 +62,6 @@ impl<'a> Held<'a> {
     }
 }
 
-/// The value of a text in its place.
-fn value_of(place: NumberPlace, text: &[u8]) -> Result<i128, AllocError>
-    requires { CanRead place }
-    ensures value { IfOk result (λ value. IsNumberAt place text.now (Ok value)) }
-    ensures within { IfOk result (λ value. unsigned_abs value ≤ place.limit) }
-{
-    match number_at(place, text) {
-        Ok(value) => Ok(value),
-        Err(_) => Err(AllocError),
-    }
-}
-
-/// The value of a text as a current.
-fn current_of(text: &[u8]) -> Result<i64, AllocError>
-    ensures value { IfOk result (λ value. IsNumberAt amperes text.now (Ok value)) }
-    ensures within { IfOk result (λ value. unsigned_abs value ≤ amperes.limit) }
-{
-    match small_number_at(AMPERES, text) {
-        Ok(value) => Ok(value),
-        Err(_) => Err(AllocError),
-    }
-}
-
 /// The number of a node's name. A table of names is full with 2^32 - 1 of them.
 fn number_of<'a>(names: &mut NodeNames<'a>, name: &'a [u8]) -> Result<u32, AllocError>
     ensures number { IfOk result (λ number. HasNumber names.new name.now number) }
@@ -97,16 +74,16 @@ fn number_of<'a>(names: &mut NodeNames<'a>, name: &'a [u8]) -> Result<u32, Alloc
     }
 }
 
-/// What a resistor's card says.
-fn take_resistor<'a>(
+/// A resistor, or a short where its value is 0.
+fn add_resistor<'a>(
     cards: &mut Cards<'a>,
     a: &'a [u8],
     b: &'a [u8],
-    value: &'a [u8],
+    ohms: i128,
 ) -> Result<(), AllocError>
-    ensures { OnOk result (Adds (ResistorCard a.now b.now value.now) cards.old cards.new) }
+    ensures { OnOk result ((text : List ℕ) → IsNumberAt ohms_place text (Ok ohms) →
+        Adds (ResistorCard a.now b.now text) cards.old cards.new) }
 {
-    let ohms = value_of(OHMS, value)?;
     let a = number_of(&mut cards.names, a)?;
     let b = number_of(&mut cards.names, b)?;
     if is_zero(ohms) {
@@ -115,6 +92,22 @@ fn take_resistor<'a>(
         cards.resistors.push(Resistor { a, b, ohms })?;
     }
     Ok(())
+}
+
+/// What a resistor's card says, by the words after its nodes.
+fn take_resistor<'a>(
+    cards: &mut Cards<'a>,
+    a: &'a [u8],
+    b: &'a [u8],
+    words: &[Heard<'a, Value>],
+) -> Result<(), AllocError>
+    ensures { OnOk result (AreHeard SaysOhms [] words.now →
+        AddsUnit (resistor_with a.now b.now (map heard_token words.now)) cards.old cards.new) }
+{
+    match words {
+        [value, _] => add_resistor(cards, a, b, value.value.wide()),
+        _ => Ok(()),
+    }
 }
 
 /// A pad of a node.
@@ -126,54 +119,56 @@ fn add_pad<'a>(cards: &mut Cards<'a>, name: &'a [u8], volts: i128) -> Result<(),
     Ok(())
 }
 
-/// A pad of a node at minus the value.
-fn add_turned_pad<'a>(cards: &mut Cards<'a>, name: &'a [u8], volts: i128) -> Result<(), AllocError>
-    requires { unsigned_abs volts ≤ 10 ^ 30 }
-    ensures { OnOk result (AddsPad name.now (neg_ℤ volts) cards.old cards.new) }
+/// Minus the volts of a source, which are far within their width.
+fn turned_volts(volts: i128) -> i128
+    ensures { unsigned_abs volts ≤ 10 ^ 30 → result ≡ neg_ℤ volts }
 {
-    let node = number_of(&mut cards.names, name)?;
-    cards.pads.push(Pad {
-        node,
-        volts: -volts,
-    })?;
-    Ok(())
+    volts.wrapping_neg()
 }
 
 /// A short between two nodes.
-fn add_short<'a>(
-    cards: &mut Cards<'a>,
-    a: &'a [u8],
-    b: &'a [u8],
-    volts: i128,
-) -> Result<(), AllocError>
-    requires { unsigned_abs volts ≤ 10 ^ 30 }
-    ensures { OnOk result (AddsShort a.now b.now volts cards.old cards.new) }
+fn add_short<'a>(cards: &mut Cards<'a>, a: &'a [u8], b: &'a [u8]) -> Result<(), AllocError>
+    ensures { OnOk result (AddsShort a.now b.now cards.old cards.new) }
 {
-    if volts != 0 {
-        return Err(AllocError);
-    }
     let a = number_of(&mut cards.names, a)?;
     let b = number_of(&mut cards.names, b)?;
     cards.shorts.push((a, b))?;
     Ok(())
 }
 
-/// What a source's card says.
+/// A source of this voltage. Between two nodes other than `0` it has been heard to be 0.
+fn add_source<'a>(
+    cards: &mut Cards<'a>,
+    a: &'a [u8],
+    b: &'a [u8],
+    volts: i128,
+) -> Result<(), AllocError>
+    ensures { OnOk result ((text : List ℕ) → IsNumberAt volts_place text (Ok volts) →
+        ((ground_name a.now || ground_name b.now) ≡ false → volts ≡ pos 0) →
+        Adds (SourceCard a.now b.now text) cards.old cards.new) }
+{
+    if is_ground(b) {
+        add_pad(cards, a, volts)
+    } else if is_ground(a) {
+        add_pad(cards, b, turned_volts(volts))
+    } else {
+        add_short(cards, a, b)
+    }
+}
+
+/// What a source's card says, by the words after its nodes without `DC`.
 fn take_source<'a>(
     cards: &mut Cards<'a>,
     a: &'a [u8],
     b: &'a [u8],
-    value: &'a [u8],
+    words: &[Heard<'a, Value>],
 ) -> Result<(), AllocError>
-    ensures { OnOk result (Adds (SourceCard a.now b.now value.now) cards.old cards.new) }
+    ensures { OnOk result (AreHeard (SaysVolts a.now b.now) [] words.now →
+        AddsUnit (source_with a.now b.now (map heard_token words.now)) cards.old cards.new) }
 {
-    let volts = value_of(VOLTS, value)?;
-    if is_ground(b) {
-        add_pad(cards, a, volts)
-    } else if is_ground(a) {
-        add_turned_pad(cards, b, volts)
-    } else {
-        add_short(cards, a, b, volts)
+    match words {
+        [value, _] => add_source(cards, a, b, value.value.wide()),
+        _ => Ok(()),
     }
 }
 
@@ -184,36 +179,14 @@ struct Range {
     high: i64,
 }
 
-/// The range of a load of this value.
-fn range_of(value: i64, range: Option<Ends<'_>>) -> Result<Range, AllocError>
-    requires { unsigned_abs value ≤ amperes.limit }
-    ensures range { IfOk result (λ ends. IsRange (option_map ends_in range.entry) value ends.low ends.high) }
-    ensures within { IfOk result (λ ends. (unsigned_abs ends.low ≤ amperes.limit) × (unsigned_abs ends.high ≤ amperes.limit)) }
-{
-    let Some(ends) = range else {
-        return Ok(Range {
-            low: value,
-            high: value,
-        });
-    };
-    let low = current_of(ends.low)?;
-    let high = current_of(ends.high)?;
-    if low > value || value > high {
-        return Err(AllocError);
-    }
-    Ok(Range { low, high })
-}
-
-/// The range of the current in the other direction.
+/// The range of the current in the other direction. Both ends are far within their width.
 fn turned(range: Range) -> Range
-    requires low { unsigned_abs range.low ≤ amperes.limit }
-    requires high { unsigned_abs range.high ≤ amperes.limit }
-    ensures low { result.low ≡ neg_ℤ range.high }
-    ensures high { result.high ≡ neg_ℤ range.low }
+    ensures low { unsigned_abs range.high ≤ 10 ^ 18 → result.low ≡ neg_ℤ range.high }
+    ensures high { unsigned_abs range.low ≤ 10 ^ 18 → result.high ≡ neg_ℤ range.low }
 {
     Range {
-        low: -range.high,
-        high: -range.low,
+        low: range.high.wrapping_neg(),
+        high: range.low.wrapping_neg(),
     }
 }
 
@@ -233,54 +206,103 @@ fn add_load<'a>(cards: &mut Cards<'a>, name: &'a [u8], range: Range) -> Result<(
     Ok(())
 }
 
-/// What a load's card says.
-fn take_load<'a>(
+/// The loads of this range at the nodes of a load's card.
+fn add_loads<'a>(
     cards: &mut Cards<'a>,
     a: &'a [u8],
     b: &'a [u8],
-    value: &'a [u8],
-    range: Option<Ends<'a>>,
+    range: Range,
 ) -> Result<(), AllocError>
-    ensures { OnOk result (Adds (LoadCard a.now b.now value.now (option_map ends_in range.entry)) cards.old cards.new) }
+    ensures { OnOk result ((text : List ℕ) (ends : Option Ends) (v : ℤ) → IsNumberAt amperes text (Ok v) →
+        IsRange ends v range.low range.high → Adds (LoadCard a.now b.now text ends) cards.old cards.new) }
 {
-    let range = range_of(current_of(value)?, range)?;
     let back = turned(range);
     add_load(cards, a, range)?;
     add_load(cards, b, back)
 }
 
-/// What a capacitor's card says.
+/// What a load's card says, by the words after its nodes without `DC`.
+fn take_load<'a>(
+    cards: &mut Cards<'a>,
+    a: &'a [u8],
+    b: &'a [u8],
+    words: &[Heard<'a, Value>],
+) -> Result<(), AllocError>
+    ensures { OnOk result (AreHeard SaysAmperes [] words.now →
+        AddsUnit (load_with a.now b.now (map heard_token words.now)) cards.old cards.new) }
+{
+    match words {
+        [value, _] => {
+            let value = value.value.small();
+            let range = Range {
+                low: value,
+                high: value,
+            };
+            add_loads(cards, a, b, range)
+        }
+        [_, _, low, high, _] => {
+            let range = Range {
+                low: low.value.small(),
+                high: high.value.small(),
+            };
+            add_loads(cards, a, b, range)
+        }
+        _ => Ok(()),
+    }
+}
+
+/// What a capacitor's card says, by the words after its ends.
 fn take_capacitor<'a>(
     cards: &mut Cards<'a>,
     a: &'a [u8],
     b: &'a [u8],
-    value: &'a [u8],
+    words: &[Heard<'a, Value>],
 ) -> Result<(), AllocError>
-    ensures { OnOk result (Adds (CapacitorCard a.now b.now value.now) cards.old cards.new) }
+    ensures { OnOk result (AreHeard SaysFarads [] words.now →
+        AddsUnit (capacitor_with a.now b.now (map heard_token words.now)) cards.old cards.new) }
 {
-    let farads = value_of(FARADS, value)?;
-    cards.caps.push(Capacitor { a, b, farads })?;
-    Ok(())
+    match words {
+        [value, _] => {
+            let farads = value.value.wide();
+            cards.caps.push(Capacitor { a, b, farads })?;
+            Ok(())
+        }
+        _ => Ok(()),
+    }
 }
 
-/// What a card says.
-fn take_card<'a>(cards: &mut Cards<'a>, card: Card<'a>) -> Result<(), AllocError>
-    ensures { OnOk result (Adds (card_in card.entry) cards.old cards.new) }
+/// What a card with this letter says, by its nodes and the words after them.
+fn take_card<'a>(
+    cards: &mut Cards<'a>,
+    letter: Sort,
+    a: &'a [u8],
+    b: &'a [u8],
+    words: &[Heard<'a, Value>],
+) -> Result<(), AllocError>
+    ensures { OnOk result (AreHeard (SaysWord letter a.now b.now) [] words.now →
+        AddsUnit (card_with letter a.now b.now (map heard_token words.now)) cards.old cards.new) }
 {
-    match card {
-        Card::Resistor { a, b, value } => take_resistor(cards, a, b, value),
-        Card::Source { a, b, value } => take_source(cards, a, b, value),
-        Card::Load { a, b, value, range } => take_load(cards, a, b, value, range),
-        Card::Capacitor { a, b, value } => take_capacitor(cards, a, b, value),
+    match letter {
+        Sort::Resistor => take_resistor(cards, a, b, words),
+        Sort::Source => take_source(cards, a, b, without_dc(words)),
+        Sort::Load => take_load(cards, a, b, without_dc(words)),
+        Sort::Capacitor => take_capacitor(cards, a, b, words),
+        _ => Ok(()),
     }
 }
 
 /// What a unit says, if it is a card.
-pub(crate) fn take_unit<'a>(cards: &mut Cards<'a>, unit: &[Word<'a>]) -> Result<(), AllocError>
-    ensures { OnOk result (AddsUnit (card_in_unit (map token unit.now)) cards.old cards.new) }
+pub(crate) fn take_unit<'a>(
+    cards: &mut Cards<'a>,
+    unit: &[Heard<'a, Value>],
+) -> Result<(), AllocError>
+    ensures { OnOk result (AreHeard says [] unit.now →
+        AddsUnit (card_in_unit (map heard_token unit.now)) cards.old cards.new) }
 {
-    match card_of(unit) {
-        Some(card) => take_card(cards, card),
-        None => Ok(()),
+    match unit {
+        [first, a, b, words @ ..] => {
+            take_card(cards, first.value.letter(), a.word.text, b.word.text, words)
+        }
+        _ => Ok(()),
     }
 }

@@ -11,7 +11,7 @@ use crate::held::Held;
 use crate::record::Cards;
 use netlist_words::NetlistWords;
 use outside::Place;
-use reading::{Cause, ErrorKind, ReadError, Refusal, read_words};
+use reading::{Cause, ErrorKind, ReadError, Refusal, read_valued_words};
 use std::alloc::Global;
 
 /// The kind of a cause.
@@ -48,6 +48,10 @@ fn error_of(refusal: Refusal<CardsKind>) -> CardsError
     }
 }
 
+/// The most bytes of a text that is read, so that its words, at most two more than its bytes, are at most 2^63. A slice may have one byte more, for
+/// which there is no memory.
+const MOST_BYTES: usize = 9_223_372_036_854_775_806;
+
 /// Reads the cards of a netlist: `R`, `V`, `I` and `C` cards in either case, with comments, a title, lines that go on with a card, dot lines that are
 /// passed over, ranges of loads in `*range` lines, and `.end`, which ends the text.
 ///
@@ -61,11 +65,14 @@ pub fn read_cards<'a>(alloc: Global, text: &'a [u8]) -> Result<Cards<'a>, CardsE
     ensures ranges { IfOk result (λ cards. All (λ load. load.low ≤ℤ load.high) cards.loads.items) }
     ensures farads { IfOk result (λ cards. All (λ cap. IsCapacitance cap.farads) cards.caps.items) }
 {
+    if text.len() > MOST_BYTES {
+        return Err(ReadError::want());
+    }
     let Ok(mut held) = Held::new(alloc) else {
         return Err(ReadError::want());
     };
     let mut words = NetlistWords::new(text);
-    match read_words(alloc, &CardsFormat, &mut held, &mut words) {
+    match read_valued_words(alloc, &CardsFormat, &mut held, &mut words) {
         Ok(()) => Ok(held.into_cards()),
         Err(refusal) => Err(error_of(refusal)),
     }

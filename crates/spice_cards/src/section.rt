@@ -1,9 +1,10 @@
 ghost use Rattle.std.specs.Prelude.{◌≡◌, map};
 ghost use Rattle.spice_cards.specs.Section.{section_number, all_sections, after_card, after_word, section_after, is_ended as ended, listed, few};
-ghost use Rattle.reading.specs.Word.{token};
+ghost use Rattle.reading.specs.Word.{heard_token};
 
 use crate::sort::{Sort, sort_of};
-use reading::{Numbered, Word, last_word};
+use crate::value::Value;
+use reading::{Heard, Numbered, last_heard};
 
 /// Where the next unit stands.
 #[derive(Clone, Copy, Debug)]
@@ -52,15 +53,15 @@ fn after_word(last: Sort) -> Section
 }
 
 /// The section after a unit in a section.
-pub(crate) fn section_after(section: Section, unit: &[Word<'_>]) -> Section
-    ensures { result ≡ section_after section (map token unit.now) }
+pub(crate) fn section_after(section: Section, unit: &[Heard<'_, Value>]) -> Section
+    ensures { result ≡ section_after section (map heard_token unit.now) }
 {
-    let Some(last) = last_word(unit) else {
+    let Some(last) = last_heard(unit) else {
         return section;
     };
     match section {
-        Section::Cards => after_card(sort_of(last)),
-        Section::Passing => after_word(sort_of(last)),
+        Section::Cards => after_card(sort_of(&last.word)),
+        Section::Passing => after_word(sort_of(&last.word)),
         Section::Ended => Section::Ended,
     }
 }

@@ -1,5 +1,6 @@
 ghost use Rattle.std.specs.Prelude.{◌≡◌};
 ghost use Rattle.spice_cards.specs.Sort.{number_of, all_sorts, the, sort_of_letter, sort_of_text, sort_of_end, sort_of, listed, few};
+ghost use Rattle.spice_cards.specs.inside.Keyword.{begins_keyword};
 ghost use Rattle.reading.specs.Word.{token};
 
 use netlist_words::{Letter, letter_of};
@@ -62,10 +63,25 @@ fn sort_of_letter(letter: Letter) -> Sort
     }
 }
 
-/// The sort of a word within a card or a dot line.
+/// Whether the word begins as a keyword does.
+fn begins_keyword(text: &[u8]) -> bool
+    ensures { result ≡ begins_keyword text.now }
+{
+    match text.first() {
+        Some(byte) => {
+            *byte == b'D' || *byte == b'.' || *byte == b';' || *byte == b'(' || *byte == b')'
+        }
+        None => false,
+    }
+}
+
+/// The sort of a word within a card or a dot line. Most words are told from keywords by their first byte.
 fn sort_of_text(text: &[u8]) -> Sort
     ensures { result ≡ sort_of_text text.now }
 {
+    if !begins_keyword(text) {
+        return sort_of_letter(letter_of(text));
+    }
     keyword_or!(text;
         b"DC" => Sort::Dc, b";" => Sort::Mark, b"(" => Sort::Mark, b")" => Sort::Mark, b".end" => Sort::End,
         b".op" => Sort::Dot, b".option" => Sort::Dot, b".options" => Sort::Dot, b".print" => Sort::Dot,

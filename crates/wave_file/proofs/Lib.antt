@@ -1,4 +1,3 @@
-pub mod Words
 pub mod Numbers
 pub mod Law
 pub mod Apart

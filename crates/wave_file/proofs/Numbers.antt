@@ -1,14 +1,20 @@
 -- Steps and numbers: each word has one answer.
-use Rattle.std.proofs.Common.{◌≡◌, ◌↔◌, IsTrue, Bool, List, ℕ, ◌≤◌, ◌^◌, ℤ, pos, negsuc, ◌<ℤ◌, Result, Ok, Err, inl, inr, sym, ◌∙◌, ap, subst, arith, to_z, of_z}
+use Rattle.std.proofs.Common.{◌≡◌, true, false, List, ℕ, ◌≤◌, ◌^◌, ℤ, pos, negsuc, ◌<ℤ◌, ◌≤ℤ◌, Result, Ok, Err, inl, inr, refl, sym, ◌∙◌, ap, subst, arith, to_z, of_z}
 use Rattle.std.specs.Prelude.{unsigned_abs}
-use Rattle.std.specs.Int.{w64, w128}
-use Rattle.std.proofs.lemmas.Int.{to_z-of_z, fits_signed_from_abs}
+use Rattle.std.specs.Int.{w64}
+use Rattle.std.proofs.lemmas.Int.{ints, to_z-of_z, fits_signed_from_abs}
 use Rattle.wave_file.specs.declared.error.WavesKind.{WavesKind}
+use Rattle.wave_file.specs.declared.error.WavesKind.TheVariants.{Falling}
+use Rattle.wave_file.specs.declared.value.Value.{Value}
 use Rattle.wave_file.specs.Fault.{refused_kind, NumberFault, Falls, RangeFault}
 use Rattle.wave_file.specs.Number.{steps, amperes, IsStep}
+use Rattle.wave_file.specs.Rule.{is_number}
+use Rattle.wave_file.specs.Sort.{sort_of}
+use Rattle.wave_file.specs.inside.Value.{SaysAmps, SaysHigh, amps_of}
 use Rattle.number_place.specs.declared.place.NumberPlace.{NumberPlace}
 use Rattle.number_place.specs.declared.place.Refused.{Refused}
 use Rattle.number_place.specs.Place.{IsNumberAt}
+use Rattle.reading.specs.Fault.{FindsValue}
 use Rattle.reading.specs.Word.{Token}
 
 -- There is only this answer.
@@ -23,21 +29,6 @@ no_error r v h = cc
 
 pub none_refused : (text : List ℕ) (v : ℤ) → IsOnly amperes text (Ok v) → (kind : WavesKind) → NumberFault text kind → ⊥
 none_refused text v only kind h = no_error h.0 v (only (Err h.0) h.1)
-
--- The test of two values tells whether they fall.
-pub falls_told : (low high : List ℕ) (a b : ℤ) (less : Bool) → IsNumberAt amperes low (Ok a) → IsOnly amperes low (Ok a) → IsNumberAt amperes high (Ok b) → IsOnly amperes high (Ok b) →
-    IsTrue less ↔ (b <ℤ a) → IsTrue less ↔ Falls low high
-falls_told low high a b less is_a only_a is_b only_b tells = (
-  (λ h. (a, b, is_a, is_b, tells.0 h)),
-  (λ f. tells.1 (subst (λ z. z <ℤ a) (ok_is f.1 b (only_b (Ok f.1) f.3)) (subst (λ z. f.1 <ℤ z) (ok_is f.0 a (only_a (Ok f.0) f.2)) f.4))),
-)
-
--- A number that is refused does not fall.
-pub no_fall_low : (low high : List ℕ) (r : Refused) → IsOnly amperes low (Err r) → Falls low high → ⊥
-no_fall_low low high r only f = no_error r f.0 (sym (only (Ok f.0) f.2))
-
-pub no_fall_high : (low high : List ℕ) (r : Refused) → IsOnly amperes high (Err r) → Falls low high → ⊥
-no_fall_high low high r only f = no_error r f.1 (sym (only (Ok f.1) f.3))
 
 -- ## one answer
 
@@ -71,8 +62,38 @@ range_one one low high k l h i = elim h.1 [
 
 -- ## numbers as the machine keeps them
 
-pub kept_128 : (v : ℤ) → unsigned_abs v ≤ 10 ^ 37 → to_z w128 (of_z w128 v) ≡ v
-kept_128 v h = to_z-of_z w128 v (fits_signed_from_abs w128 v (omega arith))
-
 pub kept_64 : (v : ℤ) → unsigned_abs v ≤ 10 ^ 18 → to_z w64 (of_z w64 v) ≡ v
 kept_64 v h = to_z-of_z w64 v (fits_signed_from_abs w64 v (omega arith))
+
+-- ## ranges
+
+-- The word after the first number is the line's end: there is no second number.
+pub range_none : (low high : Token) (v : Value) → is_number (sort_of high) ≡ false → FindsValue (RangeFault low high) (SaysHigh low high) (Ok v)
+range_none low high v not_there =
+    ((λ kind h. absurd (let t : true ≡ false = sym h.0 ∙ not_there in cc)), (λ there. absurd (let t : true ≡ false = sym there ∙ not_there in cc)))
+
+pub range_falls : (low high : Token) (a b : ℤ) → is_number (sort_of high) ≡ true → IsNumberAt amperes low.text (Ok a) → IsNumberAt amperes high.text (Ok b) → b <ℤ a →
+    RangeFault low high Falling
+range_falls low high a b there is_a is_b lt =
+    let falls : Falls low.text high.text = (a, b, is_a, is_b, lt) in
+    (there, inr (refl, falls))
+
+pub range_refused : (low high : Token) (refused : Refused) → is_number (sort_of high) ≡ true → IsNumberAt amperes high.text (Err refused) → RangeFault low high (refused_kind refused)
+range_refused low high refused there is =
+    let fault : NumberFault high.text (refused_kind refused) = (refused, is, refl) in
+    (there, inl fault)
+
+no_fall : (a b : ℤ) → a ≤ℤ b → b <ℤ a → ⊥
+no_fall a b le lt = omega (arith, ints)
+
+pub range_rises : HasOne → (low high : Token) (a : ℤ) (v : Value) → IsNumberAt amperes low.text (Ok a) → SaysAmps high.text v → a ≤ℤ amps_of v →
+    FindsValue (RangeFault low high) (SaysHigh low high) (Ok v)
+range_rises one low high a v is_a is_b le = (
+  (λ kind h. elim h.1 [
+    | inl f ↦ no_error f.0 (amps_of v) (one amperes high.text (Err f.0) (Ok (amps_of v)) f.1 is_b)
+    | inr g ↦ (let falls = g.1 in
+        no_fall a (amps_of v) le
+        (subst (λ z. z <ℤ a) (one_value one high.text falls.1 (amps_of v) falls.3 is_b) (subst (λ z. falls.1 <ℤ z) (one_value one low.text falls.0 a falls.2 is_a) falls.4)))
+  ]),
+  (λ there. (is_b, (λ least is. subst (λ z. z ≤ℤ amps_of v) (one_value one low.text a least is_a is) le))),
+)

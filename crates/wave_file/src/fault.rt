@@ -1,19 +1,23 @@
-//! The faults that the words of a line show.
-ghost use Rattle.std.specs.Prelude.{◌≡◌, ◌↔◌, ◌<ℤ◌, ◌<◌, ℕ, true, List, IsTrue};
-ghost use Rattle.wave_file.specs.Fault.{refused_kind, NumberFault, RangeFault, Falls, StepFault, FallsBelow, NodeFault, IsTwice};
-ghost use Rattle.wave_file.specs.Number.{IsStep};
+//! What the words of a line say, and the faults that they show.
+ghost use Rattle.std.specs.Prelude.{◌≡◌, ◌↔◌, ℕ, true, List, IsTrue, Ok};
+ghost use Rattle.wave_file.specs.Fault.{refused_kind, NumberFault, RangeFault, StepFault, FallsBelow, NodeFault, IsTwice};
+ghost use Rattle.wave_file.specs.Number.{amperes, IsStep};
 ghost use Rattle.wave_file.specs.Rule.{is_number as number_sort};
+ghost use Rattle.wave_file.specs.Sort.{sort_of};
 ghost use Rattle.wave_file.specs.inside.Held.{Holds};
-ghost use Rattle.reading.specs.Fault.{Finds};
+ghost use Rattle.wave_file.specs.inside.Value.{SaysStep, SaysNode, SaysAmps, SaysHigh};
+ghost use Rattle.number_place.specs.Place.{IsNumberAt};
+ghost use Rattle.reading.specs.Fault.{FindsValue};
 ghost use Rattle.reading.specs.Word.{Token, token};
 ghost use Rattle.name_places.specs.Places.{place_of};
 
 use crate::error::WavesKind;
 use crate::held::Held;
 use crate::number::{AMPERES, step_at};
-use crate::sort::{Sort, sort_of};
+use crate::sort::Sort;
 use crate::spots::Spot;
-use number_place::{Refused, number_at, texts_have_one_number};
+use crate::value::Value;
+use number_place::{Refused, small_number_at, texts_have_one_number};
 use reading::Word;
 
 /// The kind of a number that is refused.
@@ -38,18 +42,18 @@ fn is_below_last(held: &Held<'_>, step: u32) -> bool
     }
 }
 
-/// Why the step is refused.
-pub(crate) fn step_fault(held: &Held<'_>, text: &[u8]) -> Option<WavesKind>
+/// The step that the text stands for, or why it is refused.
+pub(crate) fn step_value(held: &Held<'_>, text: &[u8]) -> Result<Value, WavesKind>
     ensures { (names : List (List ℕ)) (units : List (List Token)) → Holds names units held.now →
-        Finds (StepFault units text.now) result }
+        FindsValue (StepFault units text.now) (SaysStep text.now) result }
 {
     let Some(step) = step_at(text) else {
-        return Some(WavesKind::Syntax);
+        return Err(WavesKind::Syntax);
     };
     if is_below_last(held, step) {
-        return Some(WavesKind::Falling);
+        return Err(WavesKind::Falling);
     }
-    None
+    Ok(Value::Step(step))
 }
 
 /// Whether a line before has this step and the name of this group.
@@ -61,30 +65,27 @@ fn is_twice(held: &Held<'_>, step: u32, node: usize) -> bool
     held.spots.contains(Spot { step, node })
 }
 
-/// Why the name is refused on a line with this step.
-pub(crate) fn node_fault<'a>(held: &Held<'a>, step: &[u8], name: &'a [u8]) -> Option<WavesKind>
-    ensures { (names : List (List ℕ)) (units : List (List Token)) → Holds names units held.now →
-        Finds (NodeFault names units step.now name.now) result }
+/// The group that has the name, on a line with this step, or why the name is refused.
+pub(crate) fn node_value<'a>(held: &Held<'a>, step: u32, name: &'a [u8]) -> Result<Value, WavesKind>
+    ensures { (names : List (List ℕ)) (units : List (List Token)) (text : List ℕ) → Holds names units held.now →
+        IsStep text step → FindsValue (NodeFault names units text name.now) (SaysNode names name.now) result }
 {
     let Some(node) = held.groups.place(name) else {
-        return Some(WavesKind::UnknownNode);
+        return Err(WavesKind::UnknownNode);
     };
-    let Some(step) = step_at(step) else {
-        return None;
-    };
-    if is_twice(held, step, node) {
-        return Some(WavesKind::Twice);
+    if is_twice(held, step, node as usize) {
+        return Err(WavesKind::Twice);
     }
-    None
+    Ok(Value::Node(node))
 }
 
-/// Why the text is refused as a current.
-pub(crate) fn number_fault(text: &[u8]) -> Option<WavesKind>
-    ensures { Finds (NumberFault text.now) result }
+/// The current that the text stands for, or why it is refused.
+pub(crate) fn low_value(text: &[u8]) -> Result<Value, WavesKind>
+    ensures { FindsValue (NumberFault text.now) (SaysAmps text.now) result }
 {
-    match number_at(AMPERES, text) {
-        Ok(_) => None,
-        Err(refused) => Some(refused_kind(refused)),
+    match small_number_at(AMPERES, text) {
+        Ok(amps) => Ok(Value::Amps(amps)),
+        Err(refused) => Err(refused_kind(refused)),
     }
 }
 
@@ -98,35 +99,22 @@ fn is_number(sort: Sort) -> bool
     }
 }
 
-fn is_less(a: i128, b: i128) -> bool
-    ensures { IsTrue result ↔ (a <ℤ b) }
+/// The second number of a range, whose first number is this, or why it is refused. The line's end says nothing.
+pub(crate) fn high_value(least: i64, high: &Word<'_>, sort: Sort) -> Result<Value, WavesKind>
+    ensures { (low : Token) → sort ≡ sort_of (token high.now) → IsNumberAt amperes low.text (Ok least) →
+        FindsValue (RangeFault low (token high.now)) (SaysHigh low (token high.now)) result }
 {
-    a < b
-}
-
-/// Whether the second number is below the first.
-fn falls(low: &[u8], high: &[u8]) -> bool
-    ensures { IsTrue result ↔ Falls low.now high.now }
-{
-    match (number_at(AMPERES, low), number_at(AMPERES, high)) {
-        (Ok(a), Ok(b)) => is_less(b, a),
-        _ => false,
+    texts_have_one_number();
+    if !is_number(sort) {
+        return Ok(Value::Nothing);
     }
-}
-
-/// Why the second number of a range is refused.
-pub(crate) fn range_fault(low: &Word<'_>, high: &Word<'_>) -> Option<WavesKind>
-    ensures { Finds (RangeFault (token low.now) (token high.now)) result }
-{
-    if !is_number(sort_of(high)) {
-        return None;
-    }
-    if let Some(kind) = number_fault(high.text) {
-        return Some(kind);
-    }
-    if falls(low.text, high.text) {
-        Some(WavesKind::Falling)
-    } else {
-        None
+    match small_number_at(AMPERES, high.text) {
+        Ok(greatest) => {
+            if greatest < least {
+                return Err(WavesKind::Falling);
+            }
+            Ok(Value::Amps(greatest))
+        }
+        Err(refused) => Err(refused_kind(refused)),
     }
 }

@@ -3,18 +3,20 @@ ghost use Rattle.wave_file.specs.Rule.{pattern};
 ghost use Rattle.wave_file.specs.Format.{format};
 ghost use Rattle.wave_file.specs.Sort.{all_sorts, number_of};
 ghost use Rattle.wave_file.specs.inside.Held.{Holds};
+ghost use Rattle.wave_file.specs.inside.Value.{says};
 ghost use Rattle.reading.specs.Grammar.{IsRegular};
 ghost use Rattle.reading.specs.Rule.{IsRule};
 
 use crate::error::WavesKind;
-use crate::fault::{node_fault, number_fault, range_fault, step_fault};
+use crate::fault::{high_value, low_value, node_value, step_value};
 use crate::held::{Held, take_unit};
 use crate::rule::rule;
 use crate::section::Section;
 use crate::sort::{Sort, sort_of};
+use crate::value::Value;
 use number_place::texts_have_one_number;
 use outside::Name;
-use reading::{Found, Grammar, Rule, Word, found_at};
+use reading::{Found, Heard, Rule, ValueGrammar, Word, told_at};
 use std::alloc::AllocError;
 
 /// The format of the wave files of groups with these names.
@@ -23,7 +25,7 @@ pub(crate) struct WavesFormat<'n> {
     pub(crate) names: &'n [Name],
 }
 
-impl<'a, 'n> Grammar<'a> for WavesFormat<'n> {
+impl<'a, 'n> ValueGrammar<'a> for WavesFormat<'n> {
     type Sort = Sort;
 
     type Section = Section;
@@ -32,9 +34,13 @@ impl<'a, 'n> Grammar<'a> for WavesFormat<'n> {
 
     type Kind = WavesKind;
 
+    type Value = Value;
+
     ghost format = { λ waves. format waves.names.now };
 
     ghost pattern = { pattern };
+
+    ghost says = { λ waves units. says waves.names.now };
 
     ghost holds = { λ waves held units. Holds waves.names.now units held };
 
@@ -52,13 +58,19 @@ impl<'a, 'n> Grammar<'a> for WavesFormat<'n> {
         rule(section)
     }
 
-    fn fault(&self, said: &Held<'a>, unit: &[Word<'a>]) -> Option<Found<WavesKind>> {
-        match unit {
-            [_, step] => found_at(1, step_fault(said, step.text)),
-            [_, step, name] => found_at(2, node_fault(said, step.text, name.text)),
-            [_, _, _, low] => found_at(3, number_fault(low.text)),
-            [_, _, _, low, high] => found_at(4, range_fault(low, high)),
-            _ => None,
+    fn hear(
+        &self,
+        said: &Held<'a>,
+        before: &[Heard<'a, Value>],
+        word: &Word<'a>,
+        sort: Sort,
+    ) -> Result<Value, Found<WavesKind>> {
+        match before {
+            [_] => told_at(1, step_value(said, word.text)),
+            [_, step] => told_at(2, node_value(said, step.value.step(), word.text)),
+            [_, _, _] => told_at(3, low_value(word.text)),
+            [_, _, _, low] => told_at(4, high_value(low.value.amps(), word, sort)),
+            _ => Ok(Value::Nothing),
         }
     }
 
@@ -66,7 +78,7 @@ impl<'a, 'n> Grammar<'a> for WavesFormat<'n> {
         false
     }
 
-    fn take(&self, said: &mut Held<'a>, unit: &[Word<'a>]) -> Result<(), AllocError> {
+    fn take(&self, said: &mut Held<'a>, unit: &[Heard<'a, Value>]) -> Result<(), AllocError> {
         take_unit(said, unit)
     }
 

@@ -1,25 +1,24 @@
 //! What has been read of a wave file.
 //!
-//! The words of a whole unit have shown no fault, so that its name and its numbers can be read. Where one could not, the
-//! answer is want of memory, which no clause ties to anything; it never comes.
-ghost use Rattle.std.specs.Prelude.{[], ◌∷◌, ◌++◌, ℕ, List, IfOk, OnOk, map};
-ghost use Rattle.wave_file.specs.Record.{SaysRange};
+//! The words of a whole unit come with what they say, so that no name is looked up and no number is read here.
+ghost use Rattle.std.specs.Prelude.{[], ℕ, List, OnOk, map};
 ghost use Rattle.wave_file.specs.inside.Held.{Holds, FindsChange, Takes};
-ghost use Rattle.reading.specs.Word.{token};
+ghost use Rattle.wave_file.specs.inside.Value.{says};
+ghost use Rattle.reading.specs.Grammar.{AreHeard};
+ghost use Rattle.reading.specs.Word.{heard_token};
 
-use crate::number::{AMPERES, step_at};
+use crate::groups::Groups;
 use crate::record::Change;
 use crate::spots::{Spot, Spots};
-use name_places::NamePlaces;
-use number_place::small_number_at;
-use reading::Word;
+use crate::value::Value;
+use reading::Heard;
 use std::alloc::{AllocError, Global};
 
 /// What the lines so far say.
 #[derive(Drop)]
 pub(crate) struct Held<'a> {
     /// The names of the groups.
-    pub(crate) groups: NamePlaces<'a>,
+    pub(crate) groups: Groups<'a>,
     pub(crate) changes: Vec<Change>,
     /// Where each change stands.
     pub(crate) spots: Spots,
@@ -27,8 +26,8 @@ pub(crate) struct Held<'a> {
 
 impl<'a> Held<'a> {
     /// No lines yet.
-    pub(crate) fn new(alloc: Global, groups: NamePlaces<'a>) -> Held<'a>
-        ensures { Holds groups.entry [] result }
+    pub(crate) fn new(alloc: Global, groups: Groups<'a>) -> Held<'a>
+        ensures { Holds groups.entry.names [] result }
     {
         Held {
             groups,
@@ -38,60 +37,41 @@ impl<'a> Held<'a> {
     }
 }
 
-/// The change of a line with these words.
-fn change_at<'a>(
-    groups: &NamePlaces<'a>,
-    step: &[u8],
-    name: &'a [u8],
-    low: &[u8],
-    high: &[u8],
-) -> Result<Change, AllocError>
-    ensures { IfOk result (SaysRange groups.now step.now name.now low.now high.now) }
+/// What a unit says if it is a line: one number gives both ends of the range.
+fn change_of(unit: &[Heard<'_, Value>]) -> Option<Change>
+    ensures { (names : List (List ℕ)) → AreHeard (says names) [] unit.now →
+        FindsChange names (map heard_token unit.now) result }
 {
-    let (Some(step), Some(place)) = (step_at(step), groups.place(name)) else {
-        return Err(AllocError);
-    };
-    let Ok(node) = u32::try_from(place) else {
-        return Err(AllocError);
-    };
-    let (Ok(low), Ok(high)) = (
-        small_number_at(AMPERES, low),
-        small_number_at(AMPERES, high),
-    ) else {
-        return Err(AllocError);
-    };
-    if high < low {
-        return Err(AllocError);
+    match unit {
+        [_, step, node, value, _] => {
+            let amps = value.value.amps();
+            Some(Change {
+                step: step.value.step(),
+                node: node.value.node(),
+                low: amps,
+                high: amps,
+            })
+        }
+        [_, step, node, low, high, _] => {
+            Some(Change {
+                step: step.value.step(),
+                node: node.value.node(),
+                low: low.value.amps(),
+                high: high.value.amps(),
+            })
+        }
+        _ => None,
     }
-    Ok(Change {
-        step,
-        node,
-        low,
-        high,
-    })
-}
-
-/// What a unit says if it is a line.
-fn change_of<'a>(groups: &NamePlaces<'a>, unit: &[Word<'a>]) -> Result<Option<Change>, AllocError>
-    ensures { IfOk result (FindsChange groups.now (map token unit.now)) }
-{
-    let change = match unit {
-        [_, step, name, value, _] => {
-            change_at(groups, step.text, name.text, value.text, value.text)?
-        }
-        [_, step, name, low, high, _] => {
-            change_at(groups, step.text, name.text, low.text, high.text)?
-        }
-        _ => return Ok(None),
-    };
-    Ok(Some(change))
 }
 
 /// A whole unit.
-pub(crate) fn take_unit<'a>(held: &mut Held<'a>, unit: &[Word<'a>]) -> Result<(), AllocError>
-    ensures { OnOk result (Takes held.old held.new (map token unit.now)) }
+pub(crate) fn take_unit<'a>(
+    held: &mut Held<'a>,
+    unit: &[Heard<'a, Value>],
+) -> Result<(), AllocError>
+    ensures { OnOk result (Takes held.old held.new unit.now) }
 {
-    let Some(change) = change_of(&held.groups, unit)? else {
+    let Some(change) = change_of(unit) else {
         return Ok(());
     };
     held.spots.add(Spot {

@@ -8,6 +8,7 @@
 mod error;
 mod fault;
 mod format;
+mod groups;
 mod held;
 mod laws;
 mod number;
@@ -17,6 +18,7 @@ mod rule;
 mod section;
 mod sort;
 mod spots;
+mod value;
 
 pub use error::{WavesError, WavesKind};
 pub use laws::texts_have_one_waves;

@@ -7,13 +7,14 @@ ghost use Rattle.reading.specs.Word.{Token};
 
 use crate::error::WavesError;
 use crate::format::WavesFormat;
+use crate::groups::{Groups, MOST_GROUPS};
 use crate::held::Held;
 use crate::record::Waves;
 use entry_list::Entries;
 use name_places::NamePlaces;
 use number_place::values_fit_their_places;
 use outside::Name;
-use reading::{ReadError, read_into};
+use reading::{ReadError, read_valued_into};
 use short_merge::Merged;
 use std::alloc::{AllocError, Global};
 use text_lex::Mode;
@@ -46,16 +47,19 @@ pub fn read_waves(alloc: Global, text: &[u8], merged: &Merged) -> Result<Waves, 
 /// any sign.
 ///
 /// Errors: the refusal at the earliest word, and there of the first kind, as `WavesKind` lists them; `Want` for want of
-/// memory.
+/// memory, and where there are more groups than the 2^32 that a change can name.
 pub fn read_group_waves(alloc: Global, text: &[u8], names: &[Name]) -> Result<Waves, WavesError>
     ensures reads { ReadsWaves names.now text.now result }
     ensures keeps { IfOk result (WavesKeep (length names.now)) }
 {
+    if names.len() > MOST_GROUPS {
+        return Err(ReadError::want());
+    }
     let Ok(groups) = places_of(alloc, names) else {
         return Err(ReadError::want());
     };
-    let mut held = Held::new(alloc, groups);
-    match read_into(alloc, &WavesFormat { names }, &mut held, text, Mode::Lines) {
+    let mut held = Held::new(alloc, Groups::new(groups));
+    match read_valued_into(alloc, &WavesFormat { names }, &mut held, text, Mode::Lines) {
         Ok(()) => Ok(waves_of(held)),
         Err(error) => Err(error),
     }

@@ -50,10 +50,8 @@ impl Spots {
     pub(crate) fn add(&mut self, spot: Spot) -> Result<(), AllocError>
         ensures { OnOk result (¬ Contains self.old spot → self.new ≡ self.old ++ spot ∷ []) }
     {
-        match self.spots.insert_full(spot) {
-            Ok(_) => Ok(()),
-            Err(_) => Err(AllocError),
-        }
+        self.spots.insert_full(spot)?;
+        Ok(())
     }
 
     /// No spot is there twice. It tells how many there are.

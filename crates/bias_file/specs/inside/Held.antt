@@ -1,17 +1,15 @@
 -- What the reader holds after whole lines.
-use Rattle.std.specs.Prelude.{◌≡◌, ℕ, ◌≤ℤ◌, true, false, List, [], ◌∷◌, ◌++◌, Option, None, Some, Ok}
+use Rattle.std.specs.Prelude.{◌≡◌, ◌≤ℤ◌, true, false, List, [], ◌∷◌, ◌++◌, Option, None, Some, Ok}
 use Rattle.entry_list.specs.InTurn.{InTurn}
 use Rattle.named_entries.specs.Named.{NamedList, HoldsNamed}
 use Rattle.reading.specs.Grammar.{IsTaken}
 use Rattle.reading.specs.Word.{Token}
 use Rattle.bias_file.specs.declared.held.Held.{Held}
 use Rattle.bias_file.specs.declared.held.Lists.{Lists}
-use Rattle.bias_file.specs.declared.error.BiasKind.{BiasKind}
 use Rattle.bias_file.specs.declared.held.NetVolts.{NetVolts}
 use Rattle.bias_file.specs.declared.held.NameAmps.{NameAmps}
 use Rattle.bias_file.specs.declared.sort.Sort.{Sort}
 use Rattle.bias_file.specs.declared.sort.Sort.TheVariants as sorts
-use Rattle.bias_file.specs.Fault.{NumberFault}
 use Rattle.bias_file.specs.Number.{amperes}
 use Rattle.bias_file.specs.Rule.{is_line, lines, name_on}
 use Rattle.bias_file.specs.Section.{section_of}
@@ -40,15 +38,10 @@ pub record Holds (units : List (List Token)) (held : Held) : Type 0 where
 abbrev pub Takes : (List (List Token) → Type 0) → (List (List Token) → Type 0) → List Token → Type 0
 Takes old new unit = (units : List (List Token)) → IsTaken format units unit → old units → new (units ++ unit ∷ [])
 
--- The text is not refused in the place.
-abbrev pub ShowsNone : NumberPlace → List ℕ → Type 0
-ShowsNone place text = (kind : BiasKind) → ¬ NumberFault place text kind
-
 -- `KEYWORD NET V`: the number of the line, the net and the volts.
 abbrev pub SaysVolts : NumberPlace → List Token → NetVolts → Type 0
 SaysVolts place (first ∷ net ∷ value ∷ stop ∷ []) found =
-    (found.line ≡ first.place.line) × (found.net.now ≡ net.text)
-    × (ShowsNone place value.text → IsNumberAt place value.text (Ok found.volts))
+    (found.line ≡ first.place.line) × (found.net.now ≡ net.text) × IsNumberAt place value.text (Ok found.volts)
 SaysVolts place _ found = ⊥
 
 -- What a unit says if it is a line with this first word; else nothing.

@@ -46,6 +46,12 @@ pub record IsRun (white : Bool) (text : List ℕ) (len : ℕ) : Type 0 where
   pub inside : (k : ℕ) → k < len → is_white lines_mode (slice_index text k) ≡ white
   pub ends : len < length text → is_white lines_mode (slice_index text len) ≡ not white
 
+-- The bytes begin with the first of these words. Where there are none, no word is left.
+abbrev pub BeginsAt : List Token → List ℕ → Type 0
+BeginsAt words [] = words ≡ []
+BeginsAt words (byte ∷ bytes) =
+    (first : Token) × (others : List Token) × (more : List ℕ) × (words ≡ first ∷ others) × (first.text ≡ byte ∷ more)
+
 -- The next line is taken, or there is none.
 abbrev pub TakesLine : List Line → Option SourceLine → List Line → Type 0
 TakesLine old None new = (old ≡ []) × (new ≡ [])

@@ -1,5 +1,5 @@
 -- What the reader holds after whole units, and what one more card adds to it.
-use Rattle.std.specs.Prelude.{◌≡◌, ℕ, ℤ, pos, List, [], ◌∷◌, ◌++◌, Option, None, Some}
+use Rattle.std.specs.Prelude.{◌≡◌, ℕ, ℤ, List, [], ◌∷◌, ◌++◌, Option, None, Some}
 use Rattle.grid_net.specs.declared.part.Load.{Load as NetLoad}
 use Rattle.name_table.specs.Numbering.{TakesName, AreDistinct}
 use Rattle.reading.specs.Word.{Token}
@@ -55,13 +55,12 @@ pub record AddsPad (name : List ℕ) (v : ℤ) (old new : Cards) : Type 0 where
   pub lists : AddsPart (pad_part node v) old new
   pub caps : new.caps.items ≡ old.caps.items
 
--- A short between two nodes was taken, for a value of 0.
-pub record AddsShort (a b : List ℕ) (v : ℤ) (old new : Cards) : Type 0 where
+-- A short between two nodes was taken.
+pub record AddsShort (a b : List ℕ) (old new : Cards) : Type 0 where
   pub m : ℕ
   pub n : ℕ
   pub first : HasNumber new.names a m
   pub second : HasNumber new.names b n
-  pub zero : v ≡ pos 0
   pub names : TakesNames old.names (folded a ∷ folded b ∷ []) new.names
   pub distinct : AreDistinct new.names
   pub lists : AddsPart (short_part m n) old new

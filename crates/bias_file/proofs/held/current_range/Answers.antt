@@ -1,33 +1,34 @@
-use Rattle.std.proofs.Common.{◌≡◌, true, Ok, Some, None, map, get_or, sym, ◌∙◌, refl, subst, to_z, of_z}
+use Rattle.std.proofs.Common.{Some, None, [], ℤ, map, get_or, sym, ◌∙◌, ap, refl, subst, to_z, of_z}
 use Rattle.std.specs.Int.{w64}
-use Rattle.bias_file.specs.Sort.{the, sort_of}
+use Rattle.bias_file.specs.Sort.{the}
 use Rattle.bias_file.specs.Rule.{has_range}
-use Rattle.bias_file.specs.Number.{amperes}
 use Rattle.bias_file.specs.declared.held.NameAmps.{NameAmps}
 use Rattle.bias_file.specs.inside.Held.{FindsAmps}
-use Rattle.bias_file.proofs.Taking.{no_word, five_words, not_begun, kept_64, range_found}
-use Rattle.number_place.specs.Place.{IsNumberAt}
-use Rattle.reading.specs.Word.{token}
+use Rattle.bias_file.specs.inside.Value.{says, small_of}
+use Rattle.bias_file.proofs.Taking.{no_word, not_begun, kept_64, range_found}
+use Rattle.reading.specs.Grammar.{AreHeard}
+use Rattle.reading.specs.Laws.{five-items}
+use Rattle.reading.specs.Word.{heard_token}
 use Rattle.bias_file.proofs.held.current_range.Goals as goal
 
 pub returns-then-not-begins : goal.returns-then-not-begins
-returns-then-not-begins c =
-    let xs = c.args.unit.now in
-    subst (λ z. FindsAmps c.args.word (map token z) None) (sym (five_words xs c.in-len5.len_at_least c.in-len5.len_below))
-    (not_begun (has_range c.args.word) _ (sym c.begins.ensures ∙ c.if-not-begins.true))
+returns-then-not-begins c = λ heard.
+    let words = five-items no_word c.args.unit.now c.in-len5.len_at_least c.in-len5.len_below in
+    let said = subst (λ z. AreHeard says [] z) words heard in
+    subst (λ z. FindsAmps c.args.word (map heard_token z) None) (sym words)
+    (not_begun (has_range c.args.word) _ (ap (the c.args.word) (sym said.0) ∙ sym c.begins.ensures ∙ c.if-not-begins.true))
 
 pub returns : goal.returns
-returns c =
+returns c = λ heard.
     let xs = c.args.unit.now in
+    let words = five-items no_word xs c.in-len5.len_at_least c.in-len5.len_below in
     let first = get_or xs 0 no_word in
     let name = get_or xs 1 no_word in
-    let begun : the c.args.word (sort_of (token first)) ≡ true = sym c.begins.ensures ∙ c.if-not-begins.false in
     let low = get_or xs 2 no_word in
     let high = get_or xs 3 no_word in
-    let least = c.small_value_of-least.result in
-    let greatest = c.small_value_of-greatest.result in
-    let found : NameAmps = record { line = first.place.line; name = name.text; low = to_z w64 (of_z w64 least); high = to_z w64 (of_z w64 greatest) } in
-    subst (λ z. FindsAmps c.args.word (map token z) (Some found)) (sym (five_words xs c.in-len5.len_at_least c.in-len5.len_below))
-    (range_found c.args.word (token first) (token name) (token low) (token high) (token (get_or xs 4 no_word)) found c.requires.word begun refl refl
-    (λ none. let is = c.small_value_of-least.ensures none in subst (λ z. IsNumberAt amperes low.text.now (Ok z)) (sym (kept_64 least is.1.2.within)) is)
-    (λ none. let is = c.small_value_of-greatest.ensures none in subst (λ z. IsNumberAt amperes high.text.now (Ok z)) (sym (kept_64 greatest is.1.2.within)) is))
+    let kept = λ (v : ℤ). to_z w64 (of_z w64 v) in
+    let found : NameAmps = record { line = first.word.place.line; name = name.word.text; low = kept c.small-least.result; high = kept c.small-greatest.result } in
+    subst (λ z. FindsAmps c.args.word (map heard_token z) (Some found)) (sym words)
+    (range_found c.args.word first name low high (get_or xs 4 no_word) found c.requires.word (sym c.begins.ensures ∙ c.if-not-begins.false) refl refl
+    (λ near. ap kept c.small-least.ensures ∙ kept_64 (small_of low.value) near) (λ near. ap kept c.small-greatest.ensures ∙ kept_64 (small_of high.value) near)
+    (subst (λ z. AreHeard says [] z) words heard))

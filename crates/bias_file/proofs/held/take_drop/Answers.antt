@@ -1,15 +1,23 @@
-use Rattle.std.proofs.Common.{map, refl, subst, arith}
+use Rattle.std.proofs.Common.{[], map, refl, subst, arith}
 use Rattle.bias_file.specs.declared.sort.Sort.TheVariants.{DropLimit}
 use Rattle.bias_file.specs.Number.{drop_volts}
 use Rattle.bias_file.specs.Record.{SaysDropLimit}
-use Rattle.bias_file.specs.inside.Held.{FindsVolts}
-use Rattle.bias_file.proofs.Taking.{volts_taken}
-use Rattle.reading.specs.Word.{token}
+use Rattle.bias_file.specs.inside.Held.{FindsVolts, HoldsLines, Takes}
+use Rattle.bias_file.specs.inside.Value.{says}
+use Rattle.reading.specs.Grammar.{AreHeard}
+use Rattle.bias_file.proofs.Taking.{volts_taken, on_heard, line_kept}
+use Rattle.reading.specs.Word.{heard_token}
 use Rattle.bias_file.proofs.held.take_drop.Goals as goal
 
+pub returns-in_default : goal.returns-in_default
+returns-in_default c = λ heard.
+    let unit = map heard_token c.args.unit.now in
+    line_kept SaysDropLimit DropLimit c.args.drops.now unit (subst (λ z. FindsVolts DropLimit drop_volts unit z) c.in_default.is (c.net_volts.ensures drop_volts (omega arith) (λ text value h. h) heard))
+
 pub returns : goal.returns
-returns c =
-    let unit = map token c.args.unit.now in
+returns c = on_heard (AreHeard says [] c.args.unit.now)
+    (Takes (HoldsLines SaysDropLimit DropLimit c.args.drops.now) (HoldsLines SaysDropLimit DropLimit c.add.new.self) (map heard_token c.args.unit.now)) c.add.result (λ heard.
+    let unit = map heard_token c.args.unit.now in
     volts_taken SaysDropLimit (λ line net v. record { line = line; net = net; volts = v }) DropLimit drop_volts c.args.drops.now c.add.new.self unit c.in-Some.field-0 _ c.add.result
-    (omega arith) refl (λ text kind fault. fault) (subst (λ z. FindsVolts DropLimit drop_volts unit z) c.in-Some.is c.net_volts.ensures) (λ first net value stop v is. (v, is, refl))
-    c.in_ok-new.ensures c.add.ensures.names c.add.ensures.entries
+    (omega arith) refl (subst (λ z. FindsVolts DropLimit drop_volts unit z) c.in-Some.is (c.net_volts.ensures drop_volts (omega arith) (λ text value h. h) heard)) (λ first net value stop v is. (v, is, refl))
+    c.in_ok-new.ensures c.add.ensures.names c.add.ensures.entries)

@@ -1,6 +1,4 @@
-use Rattle.std.proofs.Common.{refl, sym, ◌∙◌, ap, to_z, arith}
-use Rattle.std.specs.Int.{w128}
-use Rattle.spice_cards.proofs.Ranges.{kept_128}
+use Rattle.std.proofs.Common.{refl, sym}
 use Rattle.std.proofs.lemmas.List.{append-nil}
 use Rattle.node_names.specs.Folding.{folded}
 use Rattle.spice_cards.proofs.Lists.{taken-grows}
@@ -14,7 +12,6 @@ returns c =
       n = c.in_ok-b.b;
       first = taken-grows one two (folded c.args.b.now) c.in_ok-b.ensures.taken c.in_ok-a.a (folded c.args.a.now) c.in_ok-a.ensures.number;
       second = c.in_ok-b.ensures.number;
-      zero = sym (kept_128 c.args.volts _ (omega arith) c.requires) ∙ ap (λ z. to_z w128 z) c.if-volts-ne0.false;
       names = (one, c.in_ok-a.ensures.taken, (two, c.in_ok-b.ensures.taken, refl));
       distinct = c.in_ok-b.ensures.distinct;
       lists = record {

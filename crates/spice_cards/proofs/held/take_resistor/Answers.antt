@@ -1,60 +1,38 @@
-use Rattle.std.proofs.Common.{refl, sym, arith}
-use Rattle.std.proofs.lemmas.List.{append-nil}
-use Rattle.node_names.specs.Folding.{folded}
-use Rattle.spice_cards.specs.Record.{short_part, resistor_part}
-use Rattle.spice_cards.proofs.Lists.{taken-grows}
+use Rattle.std.proofs.Common.{Ok, [], map, OnOk, get_or, sym, ◌∙◌, ap, subst, arith, to_z, of_z}
+use Rattle.std.specs.Int.{w128}
+use Rattle.std.proofs.lemmas.List.{length-map}
+use Rattle.number_place.specs.Place.{IsNumberAt}
+use Rattle.reading.specs.Grammar.{AreHeard}
+use Rattle.reading.specs.Laws.{two-items}
+use Rattle.reading.specs.Word.{heard_token}
+use Rattle.spice_cards.specs.Card.{resistor_with}
+use Rattle.spice_cards.specs.Number.{ohms}
+use Rattle.spice_cards.specs.inside.Held.{AddsUnit}
+use Rattle.spice_cards.specs.inside.Value.{SaysOhms, wide_of}
 use Rattle.spice_cards.proofs.Ranges.{kept_128}
-use Rattle.spice_cards.proofs.Taking.{zero_part, other_part}
+use Rattle.spice_cards.proofs.Values.{no_word, on_ok, none_adds, no_resistor}
 use Rattle.spice_cards.proofs.held.take_resistor.Goals as goal
 
-pub returns-in_ok-push : goal.returns-in_ok-push
-returns-in_ok-push c =
-    let one = c.number_of.new.names in
-    let two = c.number_of-2.new.names in
-    let v = c.in_ok-ohms.ohms in record {
-      part = short_part c.in_ok-a.a c.in_ok-b.b;
-      says = (
-        v,
-        c.in_ok-a.a,
-        c.in_ok-b.b,
-        c.in_ok-ohms.ensures.value,
-        taken-grows one two (folded c.args.b.now) c.in_ok-b.ensures.taken c.in_ok-a.a (folded c.args.a.now) c.in_ok-a.ensures.number,
-        c.in_ok-b.ensures.number,
-        zero_part c.is_zero.result v _ c.in_ok-a.a c.in_ok-b.b c.is_zero.ensures (kept_128 v _ (omega arith) c.in_ok-ohms.ensures.within) c.if-is_zero.true,
-      );
-      names = (one, c.in_ok-a.ensures.taken, (two, c.in_ok-b.ensures.taken, refl));
-      distinct = λ d. c.in_ok-b.ensures.distinct;
-      lists = record {
-        resistors = sym (append-nil _);
-        shorts = c.in_ok-push.ensures.items;
-        pads = sym (append-nil _);
-        loads = sym (append-nil _);
-      };
-      caps = refl;
-    }
+pub returns-in-len2 : goal.returns-in-len2
+returns-in-len2 c =
+    let xs = c.args.words.now in
+    let a = c.args.a.now in
+    let b = c.args.b.now in
+    let first = get_or xs 0 no_word in
+    subst (λ z. OnOk c.add_resistor.result (AreHeard SaysOhms [] z → AddsUnit (resistor_with a b (map heard_token z)) c.args.cards.now c.add_resistor.new.cards))
+    (sym (two-items no_word xs c.in-len2.len_at_least c.in-len2.len_below))
+    (on_ok _ _ c.add_resistor.result (λ h heard.
+    let kept = ap (λ z. to_z w128 (of_z w128 z)) c.wide.ensures ∙ kept_128 (wide_of first.value) _ (omega arith) heard.0.0.1.2.within in
+    h first.word.text.now (subst (λ z. IsNumberAt ohms first.word.text.now (Ok z)) (sym kept) heard.0.0)) c.add_resistor.ensures)
 
-pub returns-in_ok-push-2 : goal.returns-in_ok-push-2
-returns-in_ok-push-2 c =
-    let one = c.number_of.new.names in
-    let two = c.number_of-2.new.names in
-    let v = c.in_ok-ohms.ohms in record {
-      part = resistor_part c.in_ok-a.a c.in_ok-b.b _;
-      says = (
-        v,
-        c.in_ok-a.a,
-        c.in_ok-b.b,
-        c.in_ok-ohms.ensures.value,
-        taken-grows one two (folded c.args.b.now) c.in_ok-b.ensures.taken c.in_ok-a.a (folded c.args.a.now) c.in_ok-a.ensures.number,
-        c.in_ok-b.ensures.number,
-        other_part c.is_zero.result v _ c.in_ok-a.a c.in_ok-b.b c.is_zero.ensures (kept_128 v _ (omega arith) c.in_ok-ohms.ensures.within) c.if-is_zero.false,
-      );
-      names = (one, c.in_ok-a.ensures.taken, (two, c.in_ok-b.ensures.taken, refl));
-      distinct = λ d. c.in_ok-b.ensures.distinct;
-      lists = record {
-        resistors = c.in_ok-push-2.ensures.items;
-        shorts = sym (append-nil _);
-        pads = sym (append-nil _);
-        loads = sym (append-nil _);
-      };
-      caps = refl;
-    }
+pub returns-in_default : goal.returns-in_default
+returns-in_default c = λ heard.
+    let few = c.in_default.len_below in
+    let count = length-map c.args.words.now heard_token in
+    none_adds _ c.args.cards.now (no_resistor c.args.a.now c.args.b.now (map heard_token c.args.words.now) (λ e. omega (arith, few)))
+
+pub returns-in_default-2 : goal.returns-in_default-2
+returns-in_default-2 c = λ heard.
+    let many = c.in_default.len_at_least in
+    let count = length-map c.args.words.now heard_token in
+    none_adds _ c.args.cards.now (no_resistor c.args.a.now c.args.b.now (map heard_token c.args.words.now) (λ e. omega (arith, many)))

@@ -14,10 +14,10 @@ pub mod Ordered
 pub mod Names
 pub mod Places
 pub mod Measured
-pub mod Placed
+pub mod Fronts
+pub mod Numberings
 pub mod Questions
 pub mod Ended
 pub mod Ruled
 pub mod Assembled
-pub mod Tabled
 pub mod OneNetwork

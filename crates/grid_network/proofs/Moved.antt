@@ -31,7 +31,7 @@ apart_either {X} xs s t d once ne ls lt = by (cases_lt s t) (cases_lt t s)
     by (inr h) (inl k) = λ e. once t s d k ls (sym e)
     by (inr h) (inr k) = absurd (ne (omega arith))
 
-once_swap : {X : Type 0} (xs : List X) (a b : ℕ) → a < length xs → b < length xs → EachOnce xs → EachOnce (swap xs a b)
+pub once_swap : {X : Type 0} (xs : List X) (a b : ℕ) → a < length xs → b < length xs → EachOnce xs → EachOnce (swap xs a b)
 once_swap xs a b la lb once i j d ij lj e =
     let n = length xs in
     let long = length-swap xs a b in

@@ -5,6 +5,7 @@ use Rattle.std.specs.Fmt.{signed_decimal}
 use Rattle.std.proofs.lemmas.Fmt.{decimal_injective, decimal_is_IsNumeral}
 use Rattle.std.proofs.lemmas.Int.{ints}
 use Rattle.std.proofs.lemmas.List.{length-map, get_or-map}
+use Rattle.std.proofs.lemmas.List.Elements.{All-append}
 use Rattle.std.proofs.lemmas.Str.Parse.{digit_from_value}
 use Rattle.std.specs.Str.Parse.{AllDigits}
 use Rattle.grid_network.specs.declared.key.Key.{Key}
@@ -103,3 +104,24 @@ names_differ l (k ∷ ks) few low short once i j d below within e =
     let p = get_or-map (name_of l) (k ∷ ks) i k d (omega (arith, long)) in
     let q = get_or-map (name_of l) (k ∷ ks) j k d (omega (arith, long)) in
     once i j k below (omega (arith, long)) (name_same l (get_or (k ∷ ks) i k) (get_or (k ∷ ks) j k) few (low i k (omega (arith, long))) (low j k (omega (arith, long))) (short i k (omega (arith, long))) (short j k (omega (arith, long))) (sym p ∙ e ∙ q))
+
+-- each byte of a name fits a byte
+pub name_bytes : (l : ℕ) (key : Key) → l < 2 ^ 32 → key.layer < l → IsShort key → All (λ c. c < 256) (name_of l key)
+name_bytes l key few low short =
+    let number = layer_number l key.net key.layer in
+    let a : List ℕ = (110 ∷ []) ++ decimal number in
+    let b : List ℕ = a ++ (95 ∷ []) in
+    let c : List ℕ = b ++ signed_decimal key.x in
+    let d : List ℕ = c ++ (95 ∷ []) in
+    let first : All (λ c. c < 256) a = All-append (λ c. c < 256) (110 ∷ []) (decimal number) (one 110 (omega arith)) (wider (decimal number) (decimal_plain number (number_fits l key few low short.net))) in
+    let second : All (λ c. c < 256) b = All-append (λ c. c < 256) a (95 ∷ []) first (one 95 (omega arith)) in
+    let third : All (λ c. c < 256) c = All-append (λ c. c < 256) b (signed_decimal key.x) second (wider (signed_decimal key.x) (signed_plain key.x (short.x_low, short.x_high))) in
+    let fourth : All (λ c. c < 256) d = All-append (λ c. c < 256) c (95 ∷ []) third (one 95 (omega arith)) in
+    All-append (λ c. c < 256) d (signed_decimal key.y) fourth (wider (signed_decimal key.y) (signed_plain key.y (short.y_low, short.y_high)))
+  where
+    one : (c : ℕ) → c < 256 → All (λ c. c < 256) (c ∷ [])
+    one c h zero d within = h
+    one c h (suc k) d within = absurd (omega arith)
+
+    wider : (xs : List ℕ) → Plain xs → All (λ c. c < 256) xs
+    wider xs p k d within = let h = p k d within in omega (arith, h)

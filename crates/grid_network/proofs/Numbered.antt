@@ -18,22 +18,6 @@ use Rattle.grid_network.specs.Nodes.{same_key, number_of}
 use Rattle.grid_network.specs.Laws.Keys.{one_key, same_itself}
 use Rattle.grid_network.specs.inside.Steps.{key_cmp}
 
-pub put_more : (places keys : List Key) (numbers : List ℕ) (i : ℕ) (d : Key) → length keys ≡ length places → length numbers ≡ length places
-    → All (λ n. n < length places) numbers → AllPairs (λ m n. m ≢ n) numbers → i < length places
-    → ((k : ℕ) → k < i → get_or keys (get_or numbers k 0) d ≡ get_or places k d)
-    → (k : ℕ) → k < i + 1 → get_or (set keys (get_or numbers i 0) (get_or places i d)) (get_or numbers k 0) d ≡ get_or places k d
-put_more places keys numbers i d long each within differ here before k below = by (cases_lt k i)
-  where
-    in_keys : get_or numbers i 0 < length keys
-    in_keys = let h : get_or numbers i 0 < length places = within i 0 (omega arith) in omega arith
-
-    by : ((k < i) ⊎ (i ≤ k)) → get_or (set keys (get_or numbers i 0) (get_or places i d)) (get_or numbers k 0) d ≡ get_or places k d
-    by (inl h) = get_or-set_other keys (get_or numbers i 0) (get_or numbers k 0) (get_or places i d) d (differ k i 0 h (omega arith)) ∙ before k h
-    by (inr h) =
-        let same : i ≡ k = omega arith in
-        subst (λ (m : ℕ). get_or (set keys (get_or numbers i 0) (get_or places i d)) (get_or numbers m 0) d ≡ get_or places m d) same
-        (get_or-set_same keys (get_or numbers i 0) (get_or places i d) d in_keys)
-
 -- ---- what the order says
 
 pub nat_equal : (m n : ℕ) → nat_cmp m n ≡ Equal → m ≡ n

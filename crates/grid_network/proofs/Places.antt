@@ -74,29 +74,3 @@ rising_once places up i j x below within e =
     let less : key_cmp a b ≡ Less = Less-from_sorted key_cmp places i j x up below within in
     let both : Less ≡ Equal = sym less ∙ ap (λ k. key_cmp k b) e ∙ tied_itself key_order b in
     absurd (cc)
-
--- ---- where the names went
-
--- what is told of each place of the names
-abbrev pub Went : {X : Type 0} → List X → List X → List ℕ → Type 0
-Went names ordered numbers = (i : ℕ) → i < length names → slice_get ordered (slice_index numbers i) ≡ slice_get names i
-
-pub went_to : {X : Type 0} (names ordered : List X) (numbers : List ℕ) → Went names ordered numbers → length numbers ≡ length names → (i x : ℕ) (d : X) → i < length names
-    → slice_get ordered (get_or numbers i x) ≡ Some (get_or names i d)
-went_to names ordered numbers went long i x d within =
-    ap (λ n. slice_get ordered n) (get_or_default numbers i x 0 (omega (arith, long))) ∙ went i within ∙ slice_get-get_or names i d within
-
-pub went_within : {X : Type 0} (names ordered : List X) (numbers : List ℕ) → Went names ordered numbers → length numbers ≡ length names → All (λ n. n < length ordered) numbers
-went_within [] ordered numbers went long k x within = absurd (omega (arith, long))
-went_within (d ∷ names) ordered numbers went long k x within =
-    slice_get_within ordered (get_or numbers k x) (get_or (d ∷ names) k d) (went_to (d ∷ names) ordered numbers went long k x d (omega (arith, long)))
-
-some_same : {X : Type 0} (x y : X) → Some x ≡ Some y → x ≡ y
-some_same x y e = cc
-
-pub went_apart : {X : Type 0} (names ordered : List X) (numbers : List ℕ) → Went names ordered numbers → length numbers ≡ length names → AllPairs (λ a b. a ≢ b) names → AllPairs (λ m n. m ≢ n) numbers
-went_apart [] ordered numbers went long apart i j x below within e = omega (arith, long)
-went_apart (d ∷ names) ordered numbers went long apart i j x below within e =
-    let p = went_to (d ∷ names) ordered numbers went long i x d (omega (arith, long)) in
-    let q = went_to (d ∷ names) ordered numbers went long j x d (omega (arith, long)) in
-    apart i j d below (omega (arith, long)) (some_same (get_or (d ∷ names) i d) (get_or (d ∷ names) j d) (sym p ∙ ap (λ n. slice_get ordered n) e ∙ q))

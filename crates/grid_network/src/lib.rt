@@ -18,6 +18,7 @@ mod named;
 mod nodes;
 mod note;
 mod number;
+mod numbered_names;
 mod order;
 mod pad;
 mod place;

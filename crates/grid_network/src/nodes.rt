@@ -7,9 +7,9 @@ ghost use Rattle.grid_network.specs.Nodes.{name_of};
 ghost use Rattle.grid_network.specs.inside.Steps.{TellsNumbers, key_cmp};
 
 use crate::key::Key;
-use crate::named::{names, names_of, texts};
-use crate::number::keys_in_order;
-use crate::sorted::in_byte_order;
+use crate::named::names;
+use crate::numbered_names::{keys_of, names_of, places_of};
+use crate::sorted::put_in_byte_order;
 use entry_list::Entries;
 use outside::Name;
 use std::alloc::{AllocError, Global};
@@ -33,14 +33,14 @@ pub(crate) fn named_nodes(alloc: Global, layers: u64, places: &[Key]) -> Result<
     ensures order { IfOk result (λ nodes. IsInByteOrder (map (name_of layers) nodes.keys.items)) }
     ensures numbers { IfOk result (λ nodes. TellsNumbers nodes.keys.items places.now nodes.numbers) }
 {
-    let unsorted = names(alloc, layers, places)?;
-    let texts = texts(alloc, &unsorted)?;
-    let ordered = in_byte_order(alloc, &texts)?;
-    let keys = keys_in_order(alloc, places, ordered.places.as_slice())?;
-    let names = names_of(alloc, ordered.names.as_slice())?;
+    let mut named = names(alloc, layers, places)?;
+    put_in_byte_order(&mut named);
+    let keys = keys_of(alloc, places, &named)?;
+    let numbers = places_of(alloc, &named)?;
+    let names = names_of(alloc, named)?;
     Ok(Nodes {
         keys,
         names,
-        numbers: ordered.places,
+        numbers: Entries::new(numbers),
     })
 }

@@ -1,38 +1,26 @@
 //! The names of the nodes in byte order.
-ghost use Rattle.std.specs.Prelude.{◌≡◌, ◌≢◌, ◌<◌, ◌^◌, ◌++◌, ◌∷◌, [], map, length, slice_get, slice_index, AllPairs, Contains, EachIndex, IfOk, OnOk, IsPermutation};
-ghost use Rattle.name_table.specs.ByteOrder.{IsInByteOrder};
+ghost use Rattle.std.specs.Prelude.{◌≡◌, IsPermutation};
+ghost use Rattle.std.specs.Ordering.{is_lt};
+ghost use Rattle.std.specs.List.Sorted.{IsSortedBy};
+ghost use Rattle.grid_network.specs.inside.Steps.{name_cmp};
 
-use name_table::{NameTable, OrderedNames};
-use std::alloc::{AllocError, Global};
+use crate::numbered_names::NumberedName;
+use std::cmp::Ordering;
 
-// Takes a new name into the table.
-fn add_name<'a>(table: &mut NameTable<'a>, name: &'a [u8]) -> Result<(), AllocError>
-    ensures { OnOk result (¬ Contains table.old name.now → table.new ≡ table.old ++ name.now ∷ []) }
+// By the numbers of the first bytes, and by the whole names where these are one.
+fn by_name(a: &NumberedName, b: &NumberedName) -> Ordering
+    ensures { result ≡ name_cmp a.now b.now }
 {
-    match table.number(name) {
-        Ok(_) => Ok(()),
-        Err(_) => Err(AllocError),
+    match a.front.cmp(&b.front) {
+        Ordering::Equal => a.name.bytes().cmp(&b.name.bytes()),
+        settled => settled,
     }
 }
 
-/// Names that differ, in byte order, and where each of them went.
-pub(crate) fn in_byte_order<'a>(
-    alloc: Global,
-    names: &[&'a [u8]],
-) -> Result<OrderedNames<'a>, AllocError>
-    requires few { length names.now < 2 ^ 32 }
-    requires distinct { AllPairs (λ a b. a ≢ b) (map (λ n. n.now) names.now) }
-    ensures order { IfOk result (λ ordered. IsInByteOrder (map (λ n. n.now) ordered.names)) }
-    ensures same_names { IfOk result (λ ordered.
-        IsPermutation (map (λ n. n.now) names.now) (map (λ n. n.now) ordered.names)) }
-    ensures every_place { IfOk result (λ ordered. length ordered.places ≡ length names.now) }
-    ensures places { IfOk result (λ ordered. EachIndex (map (λ n. n.now) names.now) (λ i.
-        slice_get (map (λ n. n.now) ordered.names) (slice_index ordered.places i)
-        ≡ slice_get (map (λ n. n.now) names.now) i)) }
+/// Puts the names in byte order.
+pub(crate) fn put_in_byte_order(named: &mut Vec<NumberedName>)
+    ensures same { IsPermutation named.old.items named.new.items }
+    ensures sorted { IsSortedBy (λ a b. is_lt (name_cmp a b)) named.new.items }
 {
-    let mut table = NameTable::with_capacity(alloc, names.len())?;
-    for name in names {
-        add_name(&mut table, name)?;
-    }
-    table.ordered(alloc)
+    named.sort_unstable_by(|a, b| by_name(a, b));
 }

@@ -1,8 +1,9 @@
 -- What the steps of the extraction make and keep.
-use Rattle.std.specs.Prelude.{◌≡◌, ◌⊎◌, ◌↔◌, ◌≢◌, zero, suc, ℕ, ◌+◌, ◌-◌, ◌<◌, ◌≤◌, ◌^◌, ◌==◌, min, max, ℤ, pos, negsuc, ◌≤ℤ◌, List, [], ◌++◌, All, Any, Contains, Option, Some, None, length, map, slice_get, slice_index, slice_index_or, if◌then◌else◌}
+use Rattle.std.specs.Prelude.{◌≡◌, ◌⊎◌, ◌↔◌, ◌≢◌, zero, suc, ℕ, ◌+◌, ◌-◌, ◌*◌, ◌<◌, ◌≤◌, ◌^◌, ◌==◌, min, max, ℤ, pos, negsuc, ◌≤ℤ◌, List, [], ◌++◌, All, Any, Contains, Option, Some, None, length, map, slice_get, slice_index, slice_index_or, if◌then◌else◌}
 use Rattle.std.specs.List.{range_with_len}
 use Rattle.std.specs.Option.{option_to_list}
 use Rattle.std.specs.List.Sorted.{IsStrictlySortedBy}
+use Rattle.std.specs.Cmp.Lexicographic.{slice_cmp}
 use Rattle.std.specs.Ordering.{ordering_then, nat_cmp, int_cmp}
 use Rattle.std.specs.declared.cmp.Ordering.{Ordering}
 use Rattle.std.specs.declared.cmp.Ordering.TheVariants.{Less, Greater}
@@ -25,13 +26,14 @@ use Rattle.grid_network.specs.declared.branch.Branch.{Branch}
 use Rattle.grid_network.specs.declared.branch.Branch.TheVariants.{Wire, Cuts}
 use Rattle.grid_network.specs.declared.junction.Junction.{Junction}
 use Rattle.grid_network.specs.declared.key.Key.{Key}
+use Rattle.grid_network.specs.declared.numbered_names.NumberedName.{NumberedName}
 use Rattle.grid_network.specs.declared.question.Question.{Question}
 use Rattle.grid_network.specs.declared.row.Row.{Row}
 use Rattle.grid_network.specs.declared.segment.Segment.{Segment}
 use Rattle.grid_network.specs.declared.spot.Spot.{Spot}
 use Rattle.grid_network.specs.Asked.{IsOnPiece}
 use Rattle.grid_network.specs.Drawing.{piece_at, key_at, key_of_stack, HasStackEnd}
-use Rattle.grid_network.specs.Nodes.{number_of}
+use Rattle.grid_network.specs.Nodes.{name_of, number_of}
 use Rattle.grid_network.specs.Segments.{wire_between, cut_array}
 
 -- ---- lists that grow
@@ -118,6 +120,24 @@ pub record TellsNumbers (keys places : List Key) (numbers : List ℕ) : Type 0 w
   pub told : (i : ℕ) → i < length places → slice_get keys (slice_index numbers i) ≡ slice_get places i
   pub once : (i j : ℕ) (d : Key) → i < j → j < length keys → slice_index_or keys i d ≢ slice_index_or keys j d
   pub same : (key : Key) → Contains keys key → Contains places key
+
+-- the first n bytes of a name as one number; where the name has ended, 0 stands
+unfoldable pub front_of : List ℕ → ℕ → ℕ
+front_of name zero = 0
+front_of name (suc n) = front_of name n * 256 + slice_index name n
+
+-- the name of the point with a number, with that number
+abbrev pub numbered_name : ℕ → List Key → ℕ → NumberedName
+numbered_name layers places i = let name = name_of layers (place_of places i) in
+    record { front = front_of name 16; name = name; number = i }
+
+-- by the numbers of the first bytes, then by the names
+abbrev pub name_cmp : NumberedName → NumberedName → Ordering
+name_cmp a b = ordering_then (nat_cmp a.front b.front) (slice_cmp nat_cmp a.name b.name)
+
+-- each of the numbers stands at the place that is given for it
+abbrev pub IsPlaced : List ℕ → List ℕ → Type 0
+IsPlaced numbers places = All (λ number. slice_get numbers (slice_index places number) ≡ Some number) numbers
 
 -- the points that are asked for have their places as their numbers
 abbrev pub AreInTurn : List Question → Type 0

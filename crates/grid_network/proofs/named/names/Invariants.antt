@@ -1,7 +1,7 @@
 use Rattle.std.proofs.Common.{◌≡◌, map, take, All}
-use Rattle.grid_network.specs.Nodes.{name_of}
-use Rattle.grid_network.specs.inside.Steps.{IsShort}
+use Rattle.std.specs.List.{range_with_len}
+use Rattle.grid_network.specs.inside.Steps.{numbered_name, IsShort}
 use Rattle.grid_network.proofs.named.names.Given as goal
 
-abbrev pub invariant-loop-key : goal.invariant-loop-key
-invariant-loop-key l = (l.names.items ≡ map (name_of l.layers) (take l.key-index l.keys)) × All IsShort (take l.key-index l.keys)
+abbrev pub invariant-loop-number : goal.invariant-loop-number
+invariant-loop-number l = (l.names.items ≡ map (numbered_name l.layers l.keys) (range_with_len 0 l.number)) × All IsShort (take l.number l.keys)

@@ -1,3 +1,4 @@
 pub mod Stacks
 pub mod Tapped
 pub mod Networks
+pub mod Regions

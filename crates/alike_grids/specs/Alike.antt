@@ -1,5 +1,6 @@
 -- Grids that are alike but for the rectangles in which their stacks stand.
-use Rattle.std.specs.Prelude.{◌≡◌, ℕ, ℤ, List, map}
+use Rattle.std.specs.Prelude.{◌≡◌, ℕ, ℤ, List, None, map}
+use Rattle.grid_pieces.specs.declared.grid.DomainAt.{DomainAt}
 use Rattle.grid_pieces.specs.declared.grid.Grid.{Grid}
 use Rattle.grid_pieces.specs.declared.piece.StackAt.{StackAt}
 use Rattle.via_arrays.specs.declared.parts.Stack.{Stack}
@@ -22,3 +23,7 @@ pub record AreAlike (one other : Grid) : Type 0 where
   pub domains : one.domains ≡ other.domains
   pub pieces : one.pieces ≡ other.pieces
   pub stacks : map joint_of one.stacks ≡ map joint_of other.stacks
+
+-- The grid with its domains over everything: none has a region any more.
+abbrev pub without_regions : Grid → Grid
+without_regions grid = record grid { domains = map (λ (d : DomainAt). record d { region = None }) grid.domains }

@@ -1,6 +1,6 @@
 -- A drawing over one domain, of two nets: the power and the ground net of the domain, in byte order.
 use Rattle.std.proofs.Common.{◌≡◌, ◌⊎◌, inl, inr, ℕ, zero, suc, ◌+◌, ◌<◌, Bool, true, false, cond, Some, None, List, [], ◌∷◌, length, get_or, map, refl, sym, ap, ◌∙◌, subst, arith}
-use Rattle.std.specs.Prelude.{◌↔◌, Contains, ◌||◌, slice_index_or}
+use Rattle.std.specs.Prelude.{◌↔◌, Contains, ◌||◌}
 use Rattle.std.specs.List.{list_any}
 use Rattle.std.specs.Option.{unwrap_or}
 use Rattle.std.specs.Str.{bytes_eq}
@@ -19,6 +19,7 @@ use Rattle.grid_plan.specs.declared.record.Plan.{Plan}
 use Rattle.grid_plan.specs.Names.{Names, place_in, domain_nets, HaveNets}
 use Rattle.grid_plan.specs.Planning.{Plans}
 use Rattle.grid_plan.specs.Resolved.{IsDomainAt}
+use Rattle.alike_grids.specs.Alike.{without_regions}
 use Rattle.wired_grid.specs.Wired.{one_domain}
 use Rattle.wired_again.specs.Again.{IsOverOneDomain}
 
@@ -74,8 +75,7 @@ one_in_turn says (line ∷ other ∷ lines) (entry ∷ next ∷ entries) all lon
 abbrev powers_by : List Domain → List (List ℕ) → List Bool
 powers_by domains nets = map (λ (net : List ℕ). list_any (λ (domain : Domain). bytes_eq domain.power net) domains) nets
 
-module _ (names : Names) (design : Design) (domain : Domain) (at : DomainAt) (a b : List ℕ) (before : IsBefore a b) (is : IsDomainAt names (a ∷ b ∷ []) design domain at)
-    (none : at.region ≡ None) where
+module _ (names : Names) (design : Design) (domain : Domain) (at : DomainAt) (a b : List ℕ) (before : IsBefore a b) (is : IsDomainAt names (a ∷ b ∷ []) design domain at) where
   a_not_b : bytes_eq a b ≡ false
   a_not_b = other_bytes a b (differ a b before)
 
@@ -96,17 +96,17 @@ module _ (names : Names) (design : Design) (domain : Domain) (at : DomainAt) (a 
   powers_b power =
       ap (λ n. (bytes_eq n a || false) ∷ (bytes_eq n b || false) ∷ []) power ∙ (λ i. (b_not_a i || false) ∷ (same_bytes b i || false) ∷ [])
 
-  domain_a : domain.power ≡ a → domain.ground ≡ b → at ≡ one_domain true
+  domain_a : domain.power ≡ a → domain.ground ≡ b → record at { region = None } ≡ one_domain true
   domain_a power ground =
       let at_ground : at.ground ≡ 1 = is.lower_net ∙ ap (place_in (a ∷ b ∷ [])) ground ∙ place_b in
       let at_power : at.power ≡ 0 = is.upper_net ∙ ap (place_in (a ∷ b ∷ [])) power ∙ place_a in
-      λ i. record { region = none i; ground = at_ground i; power = at_power i }
+      λ i. record { region = None; ground = at_ground i; power = at_power i }
 
-  domain_b : domain.power ≡ b → domain.ground ≡ a → at ≡ one_domain false
+  domain_b : domain.power ≡ b → domain.ground ≡ a → record at { region = None } ≡ one_domain false
   domain_b power ground =
       let at_ground : at.ground ≡ 0 = is.lower_net ∙ ap (place_in (a ∷ b ∷ [])) ground ∙ place_a in
       let at_power : at.power ≡ 1 = is.upper_net ∙ ap (place_in (a ∷ b ∷ [])) power ∙ place_b in
-      λ i. record { region = none i; ground = at_ground i; power = at_power i }
+      λ i. record { region = None; ground = at_ground i; power = at_power i }
 
   -- the first is the power net and the second the ground net, or the other way round
   two_nets : HaveNets (domain ∷ []) (a ∷ b ∷ []) → ((domain.power ≡ a) × (domain.ground ≡ b)) ⊎ ((domain.power ≡ b) × (domain.ground ≡ a))
@@ -125,10 +125,13 @@ module _ (names : Names) (design : Design) (domain : Domain) (at : DomainAt) (a 
       by (inr ground) (inr ground') = absurd (differ a b before (sym ground ∙ ground'))
 
   over : (grid : Grid) → HaveNets (domain ∷ []) (a ∷ b ∷ []) → grid.nets ≡ a ∷ b ∷ [] → grid.power ≡ powers_by (domain ∷ []) (a ∷ b ∷ []) → grid.domains ≡ at ∷ []
-      → IsOverOneDomain grid
+      → IsOverOneDomain (without_regions grid)
   over grid are nets power domains = by (two_nets are)
     where
-      by : ((domain.power ≡ a) × (domain.ground ≡ b)) ⊎ ((domain.power ≡ b) × (domain.ground ≡ a)) → IsOverOneDomain grid
+      all_over : (without_regions grid).domains ≡ record at { region = None } ∷ []
+      all_over = ap (map (λ (d : DomainAt). record d { region = None })) domains
+
+      by : ((domain.power ≡ a) × (domain.ground ≡ b)) ⊎ ((domain.power ≡ b) × (domain.ground ≡ a)) → IsOverOneDomain (without_regions grid)
       by (inl (is_power, is_ground)) = record {
         power = a;
         ground = b;
@@ -136,7 +139,7 @@ module _ (names : Names) (design : Design) (domain : Domain) (at : DomainAt) (a 
         order = before;
         nets = nets;
         powers = power ∙ powers_a is_power;
-        domains = domains ∙ ap (λ (d : DomainAt). d ∷ []) (domain_a is_power is_ground);
+        domains = all_over ∙ ap (λ (d : DomainAt). d ∷ []) (domain_a is_power is_ground);
       }
       by (inr (is_power, is_ground)) = record {
         power = b;
@@ -145,22 +148,21 @@ module _ (names : Names) (design : Design) (domain : Domain) (at : DomainAt) (a 
         order = before;
         nets = nets;
         powers = power ∙ powers_b is_power;
-        domains = domains ∙ ap (λ (d : DomainAt). d ∷ []) (domain_b is_power is_ground);
+        domains = all_over ∙ ap (λ (d : DomainAt). d ∷ []) (domain_b is_power is_ground);
       }
 
 -- ## the drawing
 
 pub over_one_domain : (tech : Tech) (cells : Cells) (names : Names) (design : Design) (script : Script) (plan : Plan) (grid : Grid)
     → Plans tech cells names design script plan → grid.nets ≡ plan.nets → grid.power ≡ plan.power → grid.domains ≡ plan.domains
-    → length grid.domains ≡ 1 → length grid.nets ≡ 2 → ((d : DomainAt) → (slice_index_or grid.domains 0 d).region ≡ None) → IsOverOneDomain grid
-over_one_domain tech cells names design script plan grid plans nets power domains one two no_region =
+    → length grid.domains ≡ 1 → length grid.nets ≡ 2 → IsOverOneDomain (without_regions grid)
+over_one_domain tech cells names design script plan grid plans nets power domains one two =
     let (a, b, plan_nets) = two_names plan.nets (sym (ap (λ (l : List (List ℕ)). length l) nets) ∙ two) in
     let (domain, at, script_domains, plan_domains, is) =
     one_in_turn (IsDomainAt names plan.nets design) script.domains plan.domains plans.domains (sym (ap (λ (l : List DomainAt). length l) domains) ∙ one) in
     let grid_domains : grid.domains ≡ at ∷ [] = domains ∙ plan_domains in
     let before : IsBefore a b = subst (λ (l : List (List ℕ)). IsInByteOrder l) plan_nets plans.nets.in_order 0 1 [] (omega arith) (omega arith) in
-    let none : at.region ≡ None = sym (ap (λ (l : List DomainAt). (slice_index_or l 0 at).region) grid_domains) ∙ no_region at in
-    over names design domain at a b before (subst (λ (l : List (List ℕ)). IsDomainAt names l design domain at) plan_nets is) none grid
+    over names design domain at a b before (subst (λ (l : List (List ℕ)). IsDomainAt names l design domain at) plan_nets is) grid
     (subst (λ (ds : List Domain). HaveNets ds (a ∷ b ∷ [])) script_domains (subst (λ (l : List (List ℕ)). HaveNets script.domains l) plan_nets plans.nets.are))
     (nets ∙ plan_nets) (power ∙ plans.power ∙ (λ i. powers_by (script_domains i) (plan_nets i))) grid_domains
 

@@ -77,7 +77,7 @@ pub record LeavesSignedOff (told : Option (List ℤ × List ℤ)) (f : SignoffFi
   pub status_is : status ≡ built_status signed.numbers
 
 -- The outputs of a build of these texts, whatever its solver told, in which no grid over macros meets a block, over one
--- domain without a region.
+-- domain, with a region or without one.
 pub record IsBuildOf (t : FiveTexts) (outputs : Outputs) : Type 0 where
   pub told : Option (List ℤ × List ℤ)
   pub design : BuiltDesign

@@ -247,8 +247,7 @@ pub fn run<F: Files, O: Sink, V: Solver>(
     ensures signoff_accepted { (names : SignoffNames) → IsSignoff words.now names → (result ≡ 0) ⊎ (result ≡ 1)
         → WhereKnown (LeavesSignoffAccepted names) (F.known files.old) (F.known files.new) }
 
-    // Where the wiring is the DEF that a `build` over one domain without a region wrote in which no grid over macros meets a
-    // block, and the other texts are those that it read, the netlist is that of the `build`, byte for byte, where it is known
+    // Where the wiring is the DEF that a `build` over one domain wrote in which no grid over macros meets a block, and the other texts are those that it read, the netlist is that of the `build`, byte for byte, where it is known
     // what the files hold.
     ensures signoff_of_build { (names : SignoffNames) → IsSignoff words.now names → (result ≡ 0) ⊎ (result ≡ 1)
         → WhereKnown (LeavesNetlistOfBuild names) (F.known files.old) (F.known files.new) }

@@ -17,7 +17,7 @@ use lef_tech::texts_have_one_tech;
 use placed_designs::read_designs_are_placed;
 use rewired_networks::rewired_networks_are_the_same;
 
-/// Where a build draws over one domain without a region, the DEF that it writes, signed off as wiring with the same
+/// Where a build draws over one domain, the DEF that it writes, signed off as wiring with the same
 /// technology, cells, placed design and bias file, has the same network, whatever proposes the certificates; so the netlist
 /// that is written is the same, byte for byte.
 pub fn built_wiring_is_signed_off_alike()

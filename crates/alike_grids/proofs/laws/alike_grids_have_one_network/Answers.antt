@@ -10,7 +10,7 @@ pub returns : goal.returns
 returns s one other tech cells design bias extracted alike is =
     subst (λ (g : Grid). IsExtracted g tech cells design bias extracted) whole there
   where
-    whole : with one other.stacks ≡ other
+    whole : with one one.domains other.stacks ≡ other
     whole i = record {
       units = alike.units i;
       nets = alike.nets i;
@@ -20,10 +20,10 @@ returns s one other tech cells design bias extracted alike is =
       stacks = other.stacks;
     }
 
-    there : IsExtracted (with one other.stacks) tech cells design bias extracted
+    there : IsExtracted (with one one.domains other.stacks) tech cells design bias extracted
     there = record {
       pads = is.pads;
       taps = is.taps;
       stand = stand_in one tech cells bias design one.stacks other.stacks is.pads is.taps is.stand;
-      network = network_in one is.pads is.taps one.stacks other.stacks alike.stacks tech extracted is.network;
+      network = network_in one is.pads is.taps one.domains one.domains one.stacks other.stacks alike.stacks tech extracted is.network;
     }

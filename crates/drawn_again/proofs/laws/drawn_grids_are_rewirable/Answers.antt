@@ -1,13 +1,12 @@
 use Rattle.std.proofs.Common.{◌≡◌, ◌<◌, All, length, get_or, subst}
-use Rattle.std.specs.Prelude.{None, slice_index_or}
 use Rattle.lef_tech.specs.declared.tech.Tech.{Tech}
 use Rattle.lef_cells.specs.declared.record.Cells.{Cells}
 use Rattle.def_design.specs.declared.record.Design.{Design}
 use Rattle.pdn_script.specs.declared.record.Script.{Script}
-use Rattle.grid_pieces.specs.declared.grid.DomainAt.{DomainAt}
 use Rattle.grid_pieces.specs.declared.grid.Grid.{Grid}
 use Rattle.grid_plan.specs.Names.{names_of}
 use Rattle.grid_shapes.specs.Drawing.{IsDrawingOf, PieceStands, StackStands}
+use Rattle.alike_grids.specs.Alike.{without_regions}
 use Rattle.wired_again.specs.Again.{HasOwnNames, IsRewirable}
 use Rattle.drawn_again.proofs.Arrays.{levels_are, arrays_alike}
 use Rattle.drawn_again.proofs.Nets.{over_one_domain, has_two_nets}
@@ -17,13 +16,13 @@ use Rattle.drawn_again.proofs.laws.drawn_grids_are_rewirable.Goals as goal
 
 again : (tech : Tech) (cells : Cells) (design : Design) (script : Script) (grid : Grid) → IsDrawingOf tech cells design script grid
     → All (PieceStands tech grid) grid.pieces → All (StackStands tech grid) grid.stacks → HasOwnNames tech → length grid.domains ≡ 1 → length grid.nets ≡ 2
-    → ((d : DomainAt) → (slice_index_or grid.domains 0 d).region ≡ None) → IsRewirable tech grid
-again tech cells design script grid drawn pieces stacks names one two no_region =
+    → IsRewirable tech (without_regions grid)
+again tech cells design script grid drawn pieces stacks names one two =
     let plan = drawn.plan in
     let (sites, _, _, are) = drawn.stacks in
     record {
       names = names;
-      over = over_one_domain tech cells (names_of tech cells design script) design script plan grid drawn.is_plan.plans drawn.nets drawn.power drawn.domains one two no_region;
+      over = over_one_domain tech cells (names_of tech cells design script) design script plan grid drawn.is_plan.plans drawn.nets drawn.power drawn.domains one two;
       cut = record { drawn = drawn.shapes; blocks = plan.blocks; are = drawn.pieces };
       pieces = λ k d within. record {
         net = subst (λ n. (get_or grid.pieces k d).net < n) two (pieces k d within).net;

@@ -2,6 +2,7 @@
 
 The cells of a row stay in their order and near their places; the cells of fill, which are one site wide, take the sites that are left.
 """
+import bisect
 import re
 from collections import defaultdict
 from typing import NamedTuple
@@ -22,18 +23,34 @@ class Cell(NamedTuple):
     width: int
 
 
+class Move(NamedTuple):
+    """A cell that is moved along its row: its name, its macro, its line in the placed design, its height, and from where to where."""
+    name: str
+    kind: str
+    line: int
+    y: int
+    x: int
+    to_x: int
+
+
 def cleared(text, width_of, windows):
-    """A placed design in which no cell but fill stands in a window, a stretch along x, and how many cells are moved for that. `width_of` tells the width of
-    a macro in the design's units."""
-    rows, moved = defaultdict(list), 0
+    """A placed design in which no cell but fill stands in a window, a stretch along x, and the cells that are moved for that, fill among them, in the order
+    of the text. `width_of` tells the width of a macro in the design's units."""
+    rows, places = defaultdict(list), {}
     for found in COMPONENT.finditer(text):
         rows[int(found[6])].append(Cell(found[2], found[3], int(found[4]), width_of(found[3])))
-    places = {}
     for row in rows.values():
-        anew = dict(placed_anew(row, windows))
-        moved += sum(cell.kind != FILL and anew[cell.name] != cell.x for cell in row)
-        places.update(anew)
-    return COMPONENT.sub(lambda found: f"{found[1]}{places[found[2]]}{found[5]}", text), moved
+        places.update(placed_anew(row, windows))
+    return COMPONENT.sub(lambda found: f"{found[1]}{places[found[2]]}{found[5]}", text), list(moves(text, places))
+
+
+def moves(text, places):
+    """The cells of a placed design that stand at other places now."""
+    breaks = [found.start() for found in re.finditer("\n", text)]
+    for found in COMPONENT.finditer(text):
+        x, to_x = int(found[4]), places[found[2]]
+        if x != to_x:
+            yield Move(found[2], found[3], bisect.bisect_left(breaks, found.start()) + 1, int(found[6]), x, to_x)
 
 
 def placed_anew(row, windows):

@@ -37,6 +37,8 @@ class Bias:
     def wanted_pads(self):
         """The pads of the caller's file, else those of the design's pins."""
         if self.words.pads:
+            for words in self.design.pins:
+                self.design.source.tell_of("passed over", words[1], "PINS", "a pin of the design: pads are those of --pads")
             return pads_of_file(self.words.pads, self.nets, self.supplies, self.changes)
         pads = pads_of_pins(self.design, self.nets)
         if not pads:

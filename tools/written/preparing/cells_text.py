@@ -19,16 +19,31 @@ def shape_lines(boxes, indent):
 
 
 def drawn(macro, shapes, library):
-    """The rectangles of shapes that lie on layers of the technology. Where a via stands among those of a block, the block is refused."""
-    kept = []
-    for layer, width, statement in shapes:
-        if statement[0].upper() == "VIA":
-            if macro.is_block():
-                macro.source.refuse(statement[0], "a via in a pin or an obstruction of a block; write its rectangles")
-            macro.source.tell("passed over", statement[0], "a via in a pin of a cell")
-        elif layer in library.layers and library.layers[layer].kind in ("ROUTING", "CUT"):
-            kept.append((layer, width, statement))
-    return macro.boxes(kept)
+    """The rectangles of shapes of a block that lie on layers of the technology. A block with a via among them is refused."""
+    found = []
+    for shape in shapes:
+        layer = library.layers.get(shape.layer)
+        if shape.is_via():
+            macro.source.refuse(shape.statement[0], "a via in a pin or an obstruction of a block; write its rectangles")
+        elif layer is None or layer.kind not in ("ROUTING", "CUT"):
+            macro.source.tell("left out", shape.statement[0], f"of macro {macro.name} on {shape.layer}, which is no layer of metal or of cuts in the LEF")
+        else:
+            more = further(macro, shape, layer)
+            found += [(name, x1 - more, y1 - more, x2 + more, y2 + more) for name, x1, y1, x2, y2 in macro.boxes_of(shape)]
+    return found
+
+
+def further(macro, shape, layer):
+    """How much greater a shape is written that asks for more spacing than its layer, which is what `pdn` keeps."""
+    if shape.spacing is None:
+        return 0
+    (spacing, word), least = shape.spacing, max(layer.spacing or 0, layer.table_spacing or 0)
+    if spacing <= least:
+        macro.source.tell("left out", word, f"of an obstruction on {layer.name}: metal keeps the SPACING of the layer from it, which is no less")
+        return 0
+    macro.source.tell("changed", word, f"of an obstruction on {layer.name}: it asks for more than the SPACING of the layer, and is written greater by "
+                                       f"{decimal(spacing - least, LENGTH)} on all sides")
+    return spacing - least
 
 
 def macro_text(macro, library):

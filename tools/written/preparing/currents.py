@@ -49,6 +49,7 @@ def read_power(path, currents, volts, as_printed):
 
 def read_table(path, lines, currents):
     """A table of instance,current or instance,low,high, in amperes."""
+    before = len(currents.held)
     for place, text in enumerate(lines, 1):
         fields = [field.strip() for field in text.split("#")[0].split(",")]
         if fields == [""] or [field.lower() for field in fields] in HEADS:
@@ -58,7 +59,11 @@ def read_table(path, lines, currents):
             raise Refused(path, place, f"{fields[0]}: instance,current or instance,low,high is due, in amperes, perhaps with a scale as 1.5m")
         if values[-1] < values[0]:
             raise Refused(path, place, f"{fields[-1]}: it is below the number before it")
-        currents.add(path, place, fields[0], floor(values[0] * FEMTO), ceiling(values[-1] * FEMTO))
+        exact = [value * FEMTO for value in values]
+        if any(value.denominator != 1 for value in exact):
+            currents.changes.tell("changed", path, place, fields[0], "its current is rounded outward to a femtoampere")
+        currents.add(path, place, fields[0], floor(exact[0]), ceiling(exact[-1]))
+    currents.changes.tell("changed", path, None, "table", f"{len(currents.held) - before} currents are written in amperes")
 
 
 def read_report(path, lines, currents, volts, as_printed):

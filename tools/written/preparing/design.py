@@ -26,10 +26,11 @@ class Row(NamedTuple):
 
 
 class Component(NamedTuple):
-    """A component: its name as it is written, its macro, and its place where it has one."""
+    """A component: its name as it is written, its macro, its place where it has one, the word of the place, and where it stands."""
     name: str
     macro: str
     place: tuple
+    how: str
     word: object
 
 
@@ -42,6 +43,13 @@ class Design:
         self.bus, self.divider = "[]", "/"
         self.rows, self.components, self.regions, self.blockages = [], {}, [], []
         self.vias, self.pins, self.nets = [], [], []
+
+    def renamed(self, word):
+        """A name in plain words, which is told where it is another one."""
+        name = self.plain_name(word)
+        if name != word:
+            self.source.tell("changed", word, f"the name is written as {name}, without escapes, with [] for bits and / for levels")
+        return name
 
     def plain_name(self, word):
         """A name without escapes, with `[]` for bits and `/` between levels, as power reports have it."""
@@ -98,7 +106,9 @@ def keep(field):
 
 def read_entries(source, design, section, reader):
     """The entries of a section, each from its `-` to its `;`."""
-    source.statement()
+    first, head = source.words[source.at - 1], source.statement()
+    if len(head) != 1 or not head[0].isdecimal():
+        source.refuse(first, "the number of its entries is due behind it, and nothing else")
     while True:
         first = source.take()
         if first.upper() == "END":
@@ -129,13 +139,15 @@ def read_name(source, design, first, held):
 
 def read_letters(source, design, first, held):
     """The letters around bits, and the one between levels."""
-    letters = held[0].strip('"') if held else ""
+    letters = held[0].strip('"') if len(held) == 1 else ""
     if first.upper() == "BUSBITCHARS" and len(letters) == 2:
-        design.bus = letters
+        wanted, design.bus = "[]", letters
     elif first.upper() == "DIVIDERCHAR" and len(letters) == 1:
-        design.divider = letters
+        wanted, design.divider = "/", letters
     else:
         source.refuse(first, "its letters are due in quotes")
+    if letters != wanted:
+        source.tell("changed", first, f"it is {letters} here, and names are written with {wanted}")
 
 
 def read_units(source, design, first, held):
@@ -163,14 +175,17 @@ def is_box(points):
 
 def read_row(source, design, first, held):
     """ROW name site x y orientation DO count BY count STEP x y."""
-    upper = [word.upper() for word in held]
-    if len(held) < 5 or (upper[5:6] == ["DO"] and (len(held) < 9 or upper[7] != "BY")) or (upper[9:10] == ["STEP"] and len(held) < 12):
+    end = next((at for at, word in enumerate(held) if word == "+"), len(held))
+    upper = [word.upper() for word in held[:end]]
+    if len(upper) not in (5, 9, 12) or upper[5:9:2] not in ([], ["DO", "BY"]) or upper[9:10] not in ([], ["STEP"]):
         source.refuse(first, "ROW name site x y orientation DO count BY count STEP x y is due")
     columns, lines, step = 1, 1, None
     if upper[5:6] == ["DO"]:
         columns, lines = whole(source, held[6]), whole(source, held[8])
     if upper[9:10] == ["STEP"]:
         step = whole(source, held[10])
+    for keyword, _ in parts_of(source, held):
+        source.tell("passed over", keyword, "of a row: it says nothing of the grid")
     if lines != 1:
         source.refuse(held[0], "a row that goes up has no rails along x; write it as rows of one site in y")
     if upper[4] not in ("N", "S", "FN", "FS"):
@@ -189,11 +204,13 @@ def parts_of(source, words):
 
 def read_component(source, design, words):
     """- name macro + PLACED ( x y ) orientation."""
-    place, name = None, design.plain_name(words[1])
+    place, how, name = None, "PLACED", design.plain_name(words[1])
     for keyword, held in parts_of(source, words):
         part = source.as_keyword(keyword)
         if part in PLACES and place is None:
-            place = place_of(source, keyword, held)
+            place, how = place_of(source, keyword, held), "FIXED" if part == "COVER" else part
+            if part == "COVER":
+                source.tell("changed", keyword, "of a component: it is written as FIXED, which is the same here")
         elif part in COMPONENT_PLAIN:
             source.tell("passed over", keyword, "of a component: it says nothing of the grid")
         elif part not in (*PLACES, "UNPLACED"):
@@ -204,7 +221,7 @@ def read_component(source, design, words):
         source.refuse(words[1], f"the component {name} stands before")
     if name != words[1]:
         source.tell_of("changed", words[1], "COMPONENTS", "a name is written without escapes, with [] for bits and / for levels")
-    design.components[name] = Component(name, str(words[2]), place, words[1])
+    design.components[name] = Component(name, str(words[2]), place, how, words[1])
 
 
 def place_of(source, keyword, held):

@@ -22,7 +22,7 @@ def component_text(component):
     if component.place is None:
         return f"- {component.name} {component.macro} ;\n"
     x, y, orientation = component.place
-    return f"- {component.name} {component.macro} + PLACED ( {x} {y} ) {orientation} ;\n"
+    return f"- {component.name} {component.macro} + {component.how} ( {x} {y} ) {orientation} ;\n"
 
 
 def section_text(name, entries):

@@ -22,6 +22,7 @@ def read_wiring(design, library, rules, wanted):
             design.source.tell_of("left out", words[1], "SPECIALNETS", "a wired net that is not the power or the ground net of the grid")
             continue
         nets.append(Reader(design, vias, words).read())
+        design.renamed(words[1])
         nets[-1].use = use
     if not nets:
         return None

@@ -83,6 +83,8 @@ def read_units(source, library):
         if word != "DATABASE":
             check_unit(source, first, word, held)
         elif len(held) == 2 and held[1].isdecimal():
+            if library.units and library.units != held[1]:
+                source.tell("passed over", first, f"it is {held[1]} here, and the one of an earlier file counts, {library.units}")
             library.units = library.units or str(held[1])
         else:
             source.refuse(first, "DATABASE MICRONS and a number are due")

@@ -42,8 +42,10 @@ def pads_of_pins(design, nets):
     for words in design.pins:
         parts = [(source.as_keyword(keyword), keyword, held) for keyword, held in parts_of(source, words)]
         net = next((design.plain_name(held[0]) for part, _, held in parts if part == "NET" and held), None)
-        if net in nets:
-            found += pads_of_pin(design, net, words[1], parts)
+        pads = pads_of_pin(design, net, words[1], parts) if net in nets else []
+        found += pads
+        if not pads:
+            source.tell_of("passed over", words[1], "PINS", "a pin of power or ground without a shape that is placed" if net in nets else "a pin of another net")
     return found
 
 
@@ -88,6 +90,7 @@ def pads_of_file(path, nets, supplies, changes):
         values = [number(word) for word in words]
         if None not in values:
             found.append(pad_at_voltage(path, line, words, values, nets, supplies, changes))
+            changes.tell("left out", path, line, "size", "of a pad: the supply is connected at its middle")
         elif None not in values[2:]:
             if words[0] not in nets:
                 raise Refused(path, line, f"{words[0]}: no net of the script or the wiring has this name")

@@ -4,6 +4,7 @@ from typing import NamedTuple
 from ..refusal import Refused
 from ..wiring import Piece
 from .design import ORIENTATIONS, whole
+from .shapes import COPIES
 
 BEGINS = ("ROUTED", "FIXED", "COVER", "SHIELD")
 PASSED = ("SOURCE", "WEIGHT", "VOLTAGE", "PATTERN", "ESTCAP", "ORIGINAL", "FIXEDBUMP", "PROPERTY")
@@ -71,6 +72,8 @@ class Reader:
         """The wiring of the net."""
         while self.peek() and self.peek() != "+":
             self.at += 1
+        if list(map(str, self.words[2:self.at])) != ["(", "*", self.words[1], ")"]:
+            self.source.tell("changed", self.words[1], f"what the net is connected to is written as ( * {self.net.name} )")
         while self.peek():
             word = self.take()
             if word == "+":
@@ -201,6 +204,8 @@ class Reader:
             if centre_line(box.segment(not is_level)) in lines:
                 is_level = not is_level
             segment = box.segment(is_level)
+            if (box.y2 - box.y1 if is_level else box.x2 - box.x1) % 2:
+                self.source.changes.tell("changed", self.source.path, box.line, "RECT", f"an odd width on {box.layer} has no centre line, and is written with one unit less")
             if segment.width == 0:
                 raise Refused(self.source.path, box.line, "RECT: a rectangle without a width of two units has no metal with a centre line")
             self.net.segments.append(segment)
@@ -231,5 +236,7 @@ class Reader:
         if [held[2].upper(), held[4].upper()] != ["BY", "STEP"]:
             self.source.refuse(word, "DO columns BY rows STEP x y is due behind it")
         columns, rows, across, up = (whole(self.source, held[at]) for at in (1, 3, 5, 6))
+        if min(columns, rows) < 1 or columns * rows > COPIES:
+            self.source.refuse(word, f"from 1 to {COPIES} places are due behind it")
         self.source.tell("changed", held[0], "a via that is repeated, written once for each place")
         return [(x + column * across, y + row * up) for column in range(columns) for row in range(rows)]

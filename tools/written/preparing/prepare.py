@@ -78,7 +78,14 @@ class Run:
             self.texts["bias"] = bias.text(list(Drawing(self.script, self.design, self.library, self.rows).straps()), "bias")
         if wiring:
             self.converted(lambda: self.make_wires(bias, *wiring))
+        if self.texts["wires.def"] is None:
+            self.pass_over_vias()
         self.texts["changes"] = self.changes.text()
+
+    def pass_over_vias(self):
+        """Tells of the vias of the design where no wiring is written that may use them."""
+        for words in self.design.vias:
+            self.design.source.tell_of("passed over", words[1], "VIAS", "a via of the design: vias of the grid are made by rules")
 
     def converted(self, step):
         """What a step makes of the wiring. What is not converted is told where there is a script, and refused where there is none."""

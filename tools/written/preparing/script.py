@@ -40,7 +40,10 @@ class Script:
 def read_script(paths, variables, dropped, changes):
     """The script as it was run."""
     commands = []
-    for call in run_scripts(paths, variables):
+    calls = run_scripts(paths, variables)
+    for path in dict.fromkeys(call.path for call in calls):
+        changes.tell("changed", path, None, "script", f"run by tclsh, which came to {sum(call.path == path for call in calls)} commands")
+    for call in calls:
         if call.kind == "unknown":
             raise Refused(call.path, call.line, f"{call.name}: no command that is known here; take it out, or define it, if the grid may be without it")
         if call.kind == "idle":
@@ -52,11 +55,11 @@ def read_script(paths, variables, dropped, changes):
     script = Script(commands)
     if not script.of("set_voltage_domain") or not script.of("define_pdn_grid"):
         raise Refused(paths[0], None, "script: no set_voltage_domain and define_pdn_grid is called; hand in the script that has them")
-    name_grids(script)
+    name_grids(script, changes)
     return script
 
 
-def name_grids(script):
+def name_grids(script, changes):
     """Gives each command the grid that it belongs to: the last one defined where it names none."""
     grid, domains = None, 0
     for command in script.commands:
@@ -69,6 +72,8 @@ def name_grids(script):
         elif command.name.startswith("add_pdn_"):
             if "-grid" not in command.options and grid is None:
                 command.refuse(command.name, "it stands before any grid; define the grid first")
+            if "-grid" not in command.options:
+                changes.tell("changed", command.path, command.line, command.name, f"-grid {grid} is written out")
             command.options = {"-grid": grid, **command.options}
             if command.get("-grid") not in script.grids():
                 command.refuse(command.get("-grid"), "no grid of this name is defined")

@@ -1,6 +1,9 @@
 """Shapes of LEF as rectangles: polygons are cut, repeated ones written out, and all are moved by their macro's origin."""
 from .quantities import number
 
+# the most copies of a shape or a via that are written out
+COPIES = 1_000_000
+
 
 def points_of(source, first, words):
     """The numbers of a shape in twos."""
@@ -49,8 +52,10 @@ def steps_of(source, first, words):
         source.refuse(first, "a repeated shape needs DO columns BY rows STEP x y")
     begin = upper.index("DO")
     columns, rows, across, up = (number(words[begin + at]) for at in (1, 3, 5, 6))
-    if None in (columns, rows, across, up) or columns.denominator * rows.denominator != 1:
+    if None in (columns, rows, across, up) or columns.denominator * rows.denominator != 1 or min(columns, rows) < 1:
         source.refuse(first, "a repeated shape needs DO columns BY rows STEP x y")
+    if columns * rows > COPIES:
+        source.refuse(first, f"more than {COPIES} copies of a shape")
     source.lengths(first, [across, up])
     return words[:begin], [(column * across, row * up) for column in range(int(columns)) for row in range(int(rows))]
 

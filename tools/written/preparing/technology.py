@@ -97,6 +97,7 @@ def read_layer_statement(source, layer, first, word):
         layer.direction = layer.direction or source.as_keyword(source.one(first, held))
     elif word == "WIDTH":
         layer.width = layer.width or numbers(source, first, held, 1)[0]
+        source.tell("passed over", first, "of a layer: it serves for resistances by length and limits for each cut alone")
     elif word == "SPACING":
         read_spacing(source, layer, first, held)
     elif word == "SPACINGTABLE":
@@ -119,6 +120,8 @@ def read_spacing(source, layer, first, held):
     """The first SPACING that is one number; the others speak of wires alone."""
     if len(held) == 1 and layer.spacing is None:
         layer.spacing = source.lengths(first, numbers(source, first, held, 1))[0]
+        if layer.kind == "CUT":
+            source.tell("passed over", first, "of a cut layer: it serves for rules that are made of fixed vias alone")
     else:
         source.tell("passed over", first, "only the first SPACING of a layer that is one number counts")
 
@@ -220,6 +223,7 @@ def read_part_statement(source, rule, first, word):
     if not rule.parts:
         if word not in ("PROPERTY", "VIA"):
             source.refuse(first, "a LAYER is due before it")
+        source.tell("passed over", first, "of a rule: it says nothing of its arrays")
         return
     part = rule.parts[-1]
     if word == "ENCLOSURE":
@@ -238,5 +242,7 @@ def read_part_statement(source, rule, first, word):
         part.spacing = part.spacing or source.lengths(first, numbers(source, first, held, 2))
     elif word == "RESISTANCE":
         part.resistance = part.resistance or numbers(source, first, held, 1)[0]
-    elif word not in ("DIRECTION", "VIA", "PROPERTY"):
+    elif word in ("DIRECTION", "VIA", "PROPERTY"):
+        source.tell("passed over", first, "of a rule: it says nothing of its arrays")
+    else:
         source.refuse(first, "no statement of a VIARULE that is known here")

@@ -212,8 +212,11 @@ def layer_text(library, layer, given, rules, areas):
 def spacing_of(layer):
     """The spacing that metal keeps: its own, or the greatest of its table, which is no less than any that the table asks."""
     if layer.table_spacing is not None and (layer.spacing is None or layer.table_spacing > layer.spacing):
-        layer.source.tell("changed", layer.word, f"SPACING is the greatest of its SPACINGTABLE, {decimal(layer.table_spacing, LENGTH)}")
+        own = "" if layer.spacing is None else f", in place of {decimal(layer.spacing, LENGTH)}"
+        layer.source.tell("changed", layer.word, f"SPACING is the greatest of its SPACINGTABLE, {decimal(layer.table_spacing, LENGTH)}{own}")
         return layer.table_spacing
+    if layer.table_spacing is not None:
+        layer.source.tell("passed over", layer.word, f"its SPACINGTABLE has no more than its SPACING, {decimal(layer.spacing, LENGTH)}")
     if layer.spacing is None:
         layer.source.tell("missing", layer.word, "the layer has no SPACING, so that metal keeps no distance from blockages")
     return layer.spacing

@@ -3,7 +3,7 @@ import math
 from typing import NamedTuple
 
 from .design import parts_of, whole
-from .technology_text import pair_of
+from .technology_text import cut_part, pair_of
 
 ORDER = ("VIARULE", "CUTSIZE", "LAYERS", "CUTSPACING", "ENCLOSURE", "ROWCOL")
 
@@ -24,7 +24,7 @@ class Vias:
         self.entries = {str(words[1]): words for words in design.vias}
         self.rules = {}
         for rule in rules:
-            self.rules.setdefault(pair_of(library, [part.layer for part in rule.parts]), rule.name)
+            self.rules.setdefault(pair_of(library, [part.layer for part in rule.parts]), []).append(rule)
         self.made = {}
 
     def get(self, word):
@@ -85,8 +85,15 @@ class Vias:
                 found.setdefault(layer, []).append(tuple(map(int, lengths)))
         return found
 
+    def rule_of(self, pair, size):
+        """The rule of these layers whose resistance and limits count: one with cuts of this size before others, and one for all widths before one for some."""
+        def is_other(rule):
+            x1, y1, x2, y2 = (length * self.design.units for length in cut_part(self.library, rule).box)
+            return (x2 - x1, y2 - y1) != size, rule.has_width()
+        return min(self.rules[pair], key=is_other).name
+
     def of_boxes(self, word, name, boxes):
-        """A fixed via as a generated one of the first rule with its layers: as many cuts, with the metal around them."""
+        """A fixed via as a generated one of a rule with its layers: as many cuts, with the metal around them."""
         source, pair = self.design.source, pair_of(self.library, list(boxes))
         if pair is None or pair not in self.rules:
             source.refuse(word, f"of via {name}: no rule has its layers {' '.join(boxes)}, so that no generated via is made of it")
@@ -98,8 +105,9 @@ class Vias:
         enclosures = [enclosure for metal in (lower[0], upper[0]) for enclosure in around(metal, span)]
         if min(enclosures) < 0:
             source.refuse(word, f"of via {name}: a cut is not inside its metal")
-        source.tell("changed", word, f"a via of rectangles, written as a generated via of rule {self.rules[pair]} with {columns} by {rows} cuts")
-        text = (f"- {name} + VIARULE {self.rules[pair]} + CUTSIZE {size[0]} {size[1]} + LAYERS {' '.join(pair)} + CUTSPACING {apart[0]} {apart[1]} "
+        rule = self.rule_of(pair, size)
+        source.tell("changed", word, f"a via of rectangles, written as a generated via of rule {rule} with {columns} by {rows} cuts")
+        text = (f"- {name} + VIARULE {rule} + CUTSIZE {size[0]} {size[1]} + LAYERS {' '.join(pair)} + CUTSPACING {apart[0]} {apart[1]} "
                 f"+ ENCLOSURE {' '.join(map(str, enclosures))} + ROWCOL {rows} {columns} ;\n")
         return Generated(pair[0], pair[2], columns * rows, text)
 

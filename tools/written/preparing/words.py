@@ -26,6 +26,12 @@ def split(text):
     return found
 
 
+def shown(word):
+    """A word as it is told: on one line, and not longer than a reader needs."""
+    text = " ".join(word.split())
+    return text if len(text) <= 60 else f"{text[:57]}..."
+
+
 class Source:
     """A text that is read word by word; what is told or refused of it has its file, line and word."""
 
@@ -47,14 +53,14 @@ class Source:
         return bisect.bisect_left(self.breaks, word.at) + 1
 
     def tell(self, kind, word, what):
-        self.changes.tell(kind, self.path, self.line(word), str(word), what)
+        self.changes.tell(kind, self.path, self.line(word), shown(word), what)
 
     def tell_of(self, kind, word, shown, what):
         """Tells of many things under one name, which are counted in one line."""
         self.changes.tell(kind, self.path, self.line(word), shown, what)
 
     def refuse(self, word, why):
-        raise Refused(self.path, self.line(word), f"{word}: {why}")
+        raise Refused(self.path, self.line(word), f"{shown(word)}: {why}")
 
     def more(self):
         """Whether a word is left."""
@@ -102,9 +108,9 @@ class Source:
         return values
 
     def one(self, first, held):
-        """The first word of a statement, which has to have one."""
-        if not held:
-            self.refuse(first, "a word is due behind it")
+        """The one word of a statement. Where more are there, a `;` may be missing, and what stands behind would be lost."""
+        if len(held) != 1:
+            self.refuse(first, f"one word is due behind it, and {len(held)} are there; mend the statement, or its ;")
         return held[0]
 
     def section(self, name):

@@ -11,6 +11,8 @@ from slow_networks import MOST_BYTES, Family
 TECH = (pathlib.Path(__file__).resolve().parent.parent / "examples" / "small-design" / "technology.lef").read_text(encoding="ascii")
 BUILD = ["build --lef lef --cells cells --def def --pdn pdn --bias bias --out-def out.def --netlist out.net --certificate out.cert --report out.rep"]
 SIGNOFF = ["signoff --lef lef --cells cells --def def --wires wires --bias bias --netlist out.net --certificate out.cert --report out.rep"]
+# segments, and vias, of a wiring
+MOST_WIRES = 1_000_000
 CELLS = "VERSION 5.8 ;\nSITE unit\nSIZE 0.2 BY 1.4 ;\nEND unit\nMACRO C0\nCLASS CORE ;\nSIZE 1.4 BY 1.4 ;\nEND C0\n"
 BLOCK = "MACRO B0\nCLASS BLOCK ;\nSIZE 1.4 BY 1.4 ;\nPIN VDD\nUSE POWER ;\nPORT\nLAYER metal4 ;\nRECT 0.4 0.4 1 1 ;\nEND\nEND VDD\nEND B0\n"
 HEAD = "set_voltage_domain -name CORE -power VDD -ground VSS\ndefine_pdn_grid -name grid -voltage_domains CORE\n"
@@ -270,8 +272,8 @@ FAMILIES = {
     "block_layers": Family("blocks, and as many layers", MOST_BYTES // 340, block_layers, each),
     "halos": Family("lines, and as many blocks with a halo", 200_000, halos, each),
     "instances": Family("blocks, and a grid over macros that names each", MOST_BYTES // 40, instances, each),
-    "pins": Family("rectangles of a pin of a macro that stands ten times", 200_000, pins, each),
-    "stacks": Family("half as many stacks at crossings of rails and straps", 2_000_000, stacks, each),
+    "pins": Family("rectangles of a pin of a macro that stands ten times", 100_000, pins, each),
+    "stacks": Family("half as many stacks at crossings of rails and straps", 480_000, stacks, each),
     "via_rules": Family("rules of vias that do not suit, and half as many stacks", 1_000_000, via_rules, each),
     "density": Family("entries of a table of current densities, and as many branches", 400_000, density, each),
     "connects": Family("connects of two layers each, and as many lines", 200_000, connects, each),
@@ -282,7 +284,7 @@ FAMILIES = {
     "statements": Family("words of a statement of the design and of a macro", MOST_BYTES // 32, statements, each),
     "pad_layers": Family("layers with a strap at one place, and as many pads there", MOST_BYTES // 350, pad_layers, each),
     "component_names": Family("components whose names have one hash", MOST_BYTES // 23, component_names, each),
-    "segments": Family("segments of a wiring that lie over one another", MOST_BYTES // 52, segments, signed),
-    "vias": Family("vias at one place", MOST_BYTES // 50, vias, signed),
-    "via_levels": Family("vias at one place on three levels, so many in all", MOST_BYTES // 50, via_levels, signed),
+    "segments": Family("segments of a wiring that lie over one another", MOST_WIRES - 100, segments, signed),
+    "vias": Family("vias at one place", MOST_WIRES - 100, vias, signed),
+    "via_levels": Family("vias at one place on three levels, so many in all", MOST_WIRES - 100, via_levels, signed),
 }

@@ -116,7 +116,7 @@ def islands(folder, size):
 
 
 def pads(folder, size):
-    netlist(folder, (f"V n{k} 0 1.{k % 10}\nR n{k} n{k + 1 if k + 1 < size else 0} 1\nI n{k} 0 1m\n" for k in range(size)))
+    netlist(folder, (f"V n{k} 0 1.{k % 10}\nR n{k} n{k + 1 if k + 1 < size else 0} 1\nI n{k} 0 1u\n" for k in range(size)))
 
 
 def parallel(folder, size):
@@ -171,8 +171,8 @@ def parallel_caps(folder, size):
 
 
 def all_change(folder, size):
-    netlist(folder, supplied(f"R n{k - 1} n{k} 1\nC n{k} 0 1p\nI n{k} 0 1n\n" for k in range(1, size)))
-    waves(folder, (f"at {t} n{k} {t + k % 7}n\n" for t in (1, 2, 3) for k in range(1, size)))
+    netlist(folder, supplied(f"R n{k - 1} n{k} 1m\nC n{k} 0 1p\nI n{k} 0 1p\n" for k in range(1, size)))
+    waves(folder, (f"at {t} n{k} {t + k % 7}p\n" for t in (1, 2, 3) for k in range(1, size)))
 
 
 def thousand_steps(folder, size):
@@ -206,7 +206,7 @@ FAMILIES = {
     "dot_words": Family("a dot line with so many words", MOST_BYTES // 2 - 1000, dot_words),
     "plus_lines": Family("a card with so many empty lines that go on with it", MOST_BYTES // 2 - 1000, plus_lines),
     "caps": Family("a capacitor beside each resistor of a line, 3 steps", MOST_NODES // 2, caps, lambda size: step(3)),
-    "parallel_caps": Family("so many capacitors from one node to ground, 3 steps", MOST_BYTES // 11 - 100, parallel_caps, lambda size: step(3)),
+    "parallel_caps": Family("so many capacitors from one node to ground, 3 steps, which count with the resistors", MOST_RESISTORS - 1, parallel_caps, lambda size: step(3)),
     "all_change": Family("a wave that changes all loads at each of 3 steps", MOST_NODES // 2, all_change, lambda size: step(3)),
     "thousand_steps": Family("a line of so many nodes with capacitors over 1000 steps, the most that there are", 5_000, thousand_steps, lambda size: step(1000)),
 }

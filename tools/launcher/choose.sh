@@ -6,14 +6,17 @@ manifest=$top/release/MANIFEST
 released=$top/release/x86_64-linux/pdn
 
 # Whether the program that was built here is current. Where its record names it, the checksum of the sources decides. A program that has no
-# record, as one of `rt run`, is current where no source is newer.
+# record, as one of `rt run` or one that somebody put there, is current where no source is newer, and that is told once.
+is_recorded=
 is_current() {
   local record=$top/crates/pdn/out/built
   [ -x "$built" ] || return 1
+  is_recorded=1
   if is_named_by "$built" "$record"; then
     is_of_these_sources "$record"
     return
   fi
+  is_recorded=
   [ -z "$(find "$top/crates.txt" "$top/HANDLES" "$top"/crates/*/src "$top"/crates/*/specs "$top"/crates/*/proofs \
     -newer "$built" -print -quit 2>/dev/null)" ]
 }
@@ -58,7 +61,10 @@ choose_installed() {
 
 choose_current() {
   program=$built
-  is_current && return
+  if is_current; then
+    [ -n "$is_recorded" ] || say "runs crates/pdn/out/pdn, a program without a record of its proof; bin/pdn --prove proves and builds one here"
+    return
+  fi
   if ! is_release_whole; then
     [ ! -e "$released" ] || say "$unfit"
   elif is_of_these_sources "$manifest"; then

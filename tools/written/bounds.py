@@ -1,6 +1,7 @@
 """The bounds that a report states: of the drop of a node against its net's supply, and of the share of its limit that a current
 takes. Both are whole numbers, rounded up."""
 from decimal import ROUND_CEILING, ROUND_FLOOR
+from functools import cached_property
 from typing import NamedTuple, Optional
 
 from .netlist import GROUND, read_cards
@@ -38,15 +39,31 @@ class Drops:
         self.points = points_of(report)
         self.net_of_number = nets_of_numbers(report, self.points, netlist)
         self.stated = {} if netlist is None else stated_supplies(netlist)
+        self.nets = [self.net_of_number[point[0]] for point in self.points]
         self.nodes_of_net = [[] for _ in report.nets]
-        for node, point in enumerate(self.points):
-            self.nodes_of_net[self.net_of_number[point.number]].append(node)
+        for node, net in enumerate(self.nets):
+            self.nodes_of_net[net].append(node)
         self.supplies = [self._supply(net) for net in range(len(report.nets))]
-        self.bounds = [self._bound(node) for node in range(len(report.nodes))]
+        self.bounds = [0] * len(report.nodes)
+        self.beyond = [False] * len(report.nodes)
+        for net, nodes in enumerate(self.nodes_of_net):
+            self._bound_all(net, nodes)
+
+    @cached_property
+    def drops(self):
+        """For each branch the greater of the bounds of its two ends: between them the voltage is nowhere lower or higher."""
+        bounds = self.bounds
+        return [one if one > other else other for one, other in [(bounds[branch[0]], bounds[branch[1]]) for branch in self.report.branches]]
+
+    @cached_property
+    def strains(self):
+        """For each branch the share of its limit that the bound of its current takes, 0 where it has none, and that bound."""
+        most = [high if high > -low else -low for _, _, low, high, _, _ in self.report.branches]
+        return [(-(-carried * NANOAMPERE * MILLION // branch[4]) if branch[4] else 0, carried) for carried, branch in zip(most, self.report.branches)]
 
     def net_of(self, node):
         """The place of the net of a node."""
-        return self.net_of_number[self.points[node].number]
+        return self.nets[node]
 
     def is_pad(self, node):
         """Whether the node stands at one voltage, which only pads do."""
@@ -64,15 +81,17 @@ class Drops:
             raise Refused(self.report.path, 2 + net, "no node of this net stands at one voltage, so its supply is not known; name the netlist by --netlist")
         return found
 
-    def _bound(self, node):
-        """How far the node stands from its supply at most, in nanovolts."""
-        supply, held = self.supplies[self.net_of(node)], self.report.nodes[node]
-        return max(supply.high - held.low, held.high - supply.low)
+    def _bound_all(self, net, nodes):
+        """How far each node of a net stands from its supply at most, in nanovolts, and whether that is more than the net's limit."""
+        held, limit = self.report.nodes, self.report.nets[net].limit
+        for node in nodes:
+            low, high = self.supplies[net]
+            bound = self.bounds[node] = max(high - held[node][1], held[node][2] - low)
+            self.beyond[node] = limit is not None and bound * NANOVOLT > limit
 
     def is_beyond(self, node):
-        """Whether the bound of a node's drop passes the limit of its net."""
-        limit = self.report.nets[self.net_of(node)].limit
-        return limit is not None and self.bounds[node] * NANOVOLT > limit
+        """Whether the bound of a node's drop exceeds the limit of its net."""
+        return self.beyond[node]
 
     def worst(self, net):
         """The node of a net that may stand furthest from its supply, the first of several; None where it has no node."""
@@ -85,7 +104,7 @@ def current(branch):
 
 
 def is_over(branch):
-    """Whether the bound of the current passes the limit."""
+    """Whether the bound of the current exceeds the limit."""
     return branch.limit is not None and current(branch) * NANOAMPERE > branch.limit
 
 

@@ -67,7 +67,7 @@ def heading(chip, head):
 class Map:
     """What is drawn of a chip in one view."""
 
-    def __init__(self, chip, view, scale, rows=(), cells=()):
+    def __init__(self, chip, view, scale, readings, rows=(), cells=()):
         self.chip, self.view, self.scale = chip, view, scale
         self.rows, self.cells = rows, cells
         self.colours = [BARE, *scale.colours, BEYOND]
@@ -75,14 +75,9 @@ class Map:
         low, high = [min(box[k] for box in boxes) for k in (0, 1)], [max(box[k] for box in boxes) for k in (2, 3)]
         self.unit = max(high[0] - low[0], high[1] - low[1], 1000) // 100
         self.box = (low[0] - 2 * self.unit, low[1] - 2 * self.unit, high[0] + 2 * self.unit, high[1] + 2 * self.unit)
-        self.numbers = [self.number(branch) for branch in range(len(chip.report.branches))]
-
-    def number(self, branch):
-        """The number of a branch's colour: 0 for metal without one, the last beyond its limit."""
-        value, is_beyond = self.view.reading(branch)
-        if is_beyond:
-            return len(self.colours) - 1
-        return 0 if value is None else 1 + self.scale.band(value)
+        bands = {value: 1 + scale.band(value) for value in {reading.value for reading in readings} - {None}}
+        # the number of each branch's colour: 0 for metal without one, the last beyond its limit
+        self.numbers = [len(self.colours) - 1 if is_beyond else bands.get(value, 0) for value, is_beyond in readings]
 
     def box_of(self, piece, start=None, end=None):
         """The rectangle of a piece or of a part of it as it is drawn: at least as wide as can be seen."""

@@ -13,6 +13,7 @@ from .refusal import Refused
 from .wiring import Net, Piece
 
 PIN = "PIN"
+INFINITY = float("inf")
 
 
 class Segment(NamedTuple):
@@ -39,14 +40,19 @@ class Metal:
 
     def piece(self, net, layer, one, other):
         """The piece along whose centre line two places lie, or None."""
-        for horizontal, across, along in ((True, 1, 0), (False, 0, 1)):
-            if one[across] == other[across]:
-                pieces = self.lines.get((net, layer, horizontal, one[across]), ())
-                start, end = sorted((one[along], other[along]))
-                at = bisect_right(pieces, (start, float("inf"))) - 1
-                if at >= 0 and pieces[at][1] >= end:
-                    return pieces[at][2]
-        return None
+        (x, y), (other_x, other_y) = one, other
+        found = self._along((net, layer, True, y), x, other_x) if y == other_y else None
+        return self._along((net, layer, False, x), y, other_y) if found is None and x == other_x else found
+
+    def _along(self, line, start, end):
+        """The piece of a line that has two places of it, or None."""
+        pieces = self.lines.get(line)
+        if pieces is None:
+            return None
+        if start > end:
+            start, end = end, start
+        first, last, piece = pieces[0] if len(pieces) == 1 else pieces[max(bisect_right(pieces, (start, INFINITY)) - 1, 0)]
+        return piece if first <= start and end <= last else None
 
     def meets(self, net, piece):
         """Whether a piece of the net and layer lies on the centre line of another within its ends."""
@@ -108,15 +114,16 @@ class Layers:
     def _possible(self):
         """For each number the nets and layers on whose metal its nodes at stacks lie; all of its nodes where none is at a stack."""
         every = [(net, layer) for net in range(len(self.chip.nets)) for layer in self.wiring.layers()]
-        whole, stacked = {}, {}
-        for node, point in enumerate(self.points):
-            fit = [pair for pair in whole.get(point.number, every) if self.chip.metal.has(*pair, point[1:])]
-            whole[point.number] = fit
+        whole, stacked, has = {}, {}, self.chip.metal.has
+        for node, (number, x, y) in enumerate(self.points):
+            before = whole.get(number, every)
+            fit = whole[number] = [pair for pair in before if has(*pair, (x, y))]
             if node in self.stacked:
-                left = [pair for pair in stacked.get(point.number, every) if self.chip.metal.has(*pair, point[1:])]
+                held = stacked.get(number, every)
+                left = fit if held == before else [pair for pair in held if has(*pair, (x, y))]
                 if not left:
                     self.chip.refuse_node(node)
-                stacked[point.number] = left
+                stacked[number] = left
         for node, point in enumerate(self.points):
             if not whole[point.number] and point.number not in stacked:
                 self.chip.refuse_node(node)
@@ -165,6 +172,8 @@ class Chip:
         self.metal = Metal(self.nets)
         self.layer_of = Layers(self).found(netlist)
         self.segments, self.branch_of, self.pins = {}, {}, {}
+        # the segments of a piece, found by the piece itself, since its words take long to be hashed
+        self._laid = {}
         bare = [branch for branch, held in enumerate(report.branches) if not self._lay(branch, drops.points[held.start], drops.points[held.end])]
         self._lay_pins(bare)
         self._check_arrays()
@@ -204,8 +213,12 @@ class Chip:
 
     def _lay_along(self, branch, net, piece, one, other):
         """Lays a branch on its piece."""
-        along = 0 if piece.is_horizontal else 1
-        self.segments.setdefault((net, piece), []).append(Segment(*sorted((one[along], other[along])), branch))
+        laid = self._laid.get(id(piece))
+        if laid is None:
+            laid = self._laid[id(piece)] = (0 if piece.is_horizontal else 1, self.segments.setdefault((net, piece), []))
+        along, segments = laid
+        start, end = one[along], other[along]
+        segments.append(Segment(start, end, branch) if start <= end else Segment(end, start, branch))
 
     def _lay_array(self, branch, net, layers, place):
         """Lays a branch on the array between two layers at a place."""

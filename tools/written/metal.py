@@ -58,13 +58,13 @@ def differences(tool, got, wanted):
     return lines + [f"{tool} has besides {layer} {box}" for layer, *box in sorted((got - wanted).elements())]
 
 
-def report_on(tool, got, wanted, path):
+def report_on(tool, got, wanted, path, how=""):
     """Says whether the metal is the same, with at most ten of the differences, and the status that follows."""
     found = differences(tool, got, wanted)
     if not found:
-        print(f"{tool}: {sum(wanted.values())} rectangles of metal, as {path} has them")
+        print(f"{tool}: {sum(wanted.values())} rectangles of metal, as {path} has them{how}")
         return 0
     for line in found[:10]:
         print(line)
-    print(f"{tool}: {len(found)} rectangles differ from {path}")
+    print(f"{tool}: {len(found)} rectangles differ from {path}{how}")
     return 1

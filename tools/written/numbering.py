@@ -23,13 +23,11 @@ class Point(NamedTuple):
 
 def points_of(report):
     """The point of each node of a report of `build`."""
-    points = []
-    for place, node in enumerate(report.nodes):
-        found = _NAME.fullmatch(node.name)
-        if found is None:
-            raise Refused(report.path, report.line_of_node(place), f"{node.name} is no name of a node of 'pdn build'")
-        points.append(Point(*map(int, found.groups())))
-    return points
+    found = [_NAME.fullmatch(node[0]) for node in report.nodes]
+    if None in found:
+        place = found.index(None)
+        raise Refused(report.path, report.line_of_node(place), f"{report.nodes[place].name} is no name of a node of 'pdn build'")
+    return [Point(int(number), int(x), int(y)) for number, x, y in [words.groups() for words in found]]
 
 
 def layer_counts(nets, numbers):
@@ -67,7 +65,8 @@ def nets_by_notes(report, points, netlist):
 
 def joined_numbers(report, points):
     """The numbers in groups, so that branches join the numbers of one group: those of one group are of one net."""
-    joins = {tuple(sorted((points[branch.start].number, points[branch.end].number))) for branch in report.branches}
+    numbers = [point[0] for point in points]
+    joins = {(numbers[branch[0]], numbers[branch[1]]) for branch in report.branches}
     groups = {number: {number} for number in {point.number for point in points}}
     for one, other in joins:
         if groups[one] is not groups[other]:

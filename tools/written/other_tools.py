@@ -14,6 +14,11 @@ def is_missing(tool, what):
     return True
 
 
+def add_strict(parser, tool):
+    """The option by which a comparison that compared nothing does not pass."""
+    parser.add_argument("--strict", action="store_true", help=f"end with 1 too where nothing could be compared, as where {tool} is missing")
+
+
 def output_of(words, folder, seconds=600):
     """What a tool prints, run in a folder without a display."""
     environment = dict(os.environ, QT_QPA_PLATFORM="offscreen", HOME=folder)

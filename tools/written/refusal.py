@@ -44,8 +44,8 @@ def say(message):
     print(f"{os.path.basename(sys.argv[0])}: {message}", file=sys.stderr)
 
 
-def run(main):
-    """Ends the process with the status of main, and with 1 and one line where an input is refused."""
+def run(main, refused=1):
+    """Ends the process with the status of main, and with that of a refusal and one line where an input is refused."""
     # what is read is held to the end, so there is nothing to collect, and to look for it takes a fifth of the time
     gc.disable()
     # a stream that is closed at the start is None, and is read by nobody
@@ -57,7 +57,7 @@ def run(main):
         sys.stdout.flush()
     except Refused as why:
         say(why)
-        status = 1
+        status = refused
     except BrokenPipeError:
         # who reads has seen enough, as `head` does
         leave_standard_output()

@@ -3,12 +3,27 @@
 It is read as `pdn signoff` reads it. Segments of one net, layer, width and centre line that meet are one piece. What lies in a
 DEF that `pdn build` wrote comes out as `wiring` reads it.
 """
+from typing import NamedTuple
+
 from .def_text import Head, statements
 from .refusal import Refused
 from .wiring import Array, Net, Piece, Via
 
 _VIA_WORDS = {"VIARULE": 1, "CUTSIZE": 2, "LAYERS": 3, "CUTSPACING": 2, "ENCLOSURE": 4, "ROWCOL": 2}
-_ROUTES = ("ROUTED", "FIXED", "COVER")
+ROUTES = ("ROUTED", "FIXED", "COVER")
+# of the shapes in one piece the first counts
+_SHAPES = ("RING", "STRIPE", "FOLLOWPIN")
+
+
+class Path(NamedTuple):
+    """A path of wiring: the word behind SHAPE, if there is one, and the points, each as x, y and how far the metal goes on beyond it. Its words go from
+    the layer on."""
+    layer: str
+    width: int
+    shape: str
+    points: list
+    words: list
+    line: int
 
 
 class Routed(Head):
@@ -43,15 +58,19 @@ class Routed(Head):
 
     def _take_net(self, statement):
         """Takes a net of power or ground."""
-        words = statement.words
-        use = next((words[at + 1] for at in range(3, len(words) - 1)
-                    if words[at - 1:at + 1] == ["+", "USE"] and words[at + 1] in ("POWER", "GROUND")), None)
-        if use is None or len(words) < 2:
+        use = use_of(statement.words)
+        if use is None:
             return
         paths = Paths(self, statement)
-        net = Net(words[1], use, statement.lines[0])
+        net = Net(statement.words[1], use, statement.lines[0])
         net.pieces, net.arrays = joined_pieces(paths.segments), paths.arrays
         self.nets.append(net)
+
+
+def use_of(words):
+    """POWER or GROUND, where that is the use of this net: the first of them that it says. Else None."""
+    return next((words[at + 1] for at in range(3, len(words) - 1)
+                 if words[at - 1:at + 1] == ["+", "USE"] and words[at + 1] in ("POWER", "GROUND")), None)
 
 
 def generated_via(words):
@@ -73,16 +92,18 @@ def generated_via(words):
 
 
 class Paths:
-    """The paths of a net, as segments and arrays."""
+    """The paths of a net, as segments and arrays. Each path is put into a list, where one is handed in."""
 
-    def __init__(self, routed, statement):
-        self.routed, self.statement = routed, statement
+    def __init__(self, routed, statement, kept=None):
+        self.routed, self.statement, self.kept = routed, statement, kept
         self.words, self.lines = statement.words, statement.lines
         self.segments, self.arrays = [], []
         at, is_routed = 2, False
         while at < len(self.words):
-            if self.words[at] == "+" and self.word(at + 1) in _ROUTES:
-                at, is_routed = self._take_path(at + 2), True
+            if self.words[at] == "+":
+                # `NEW` goes on with wiring alone: behind another part it is passed over with it
+                is_routed = self.word(at + 1) in ROUTES
+                at = self._take_path(at + 2) if is_routed else at + 1
             elif self.words[at] == "NEW" and is_routed:
                 at = self._take_path(at + 1)
             else:
@@ -98,20 +119,22 @@ class Paths:
 
     def _take_path(self, at):
         """Takes a path from its layer on: the place behind it."""
-        layer, width, shape = self.word(at), self.routed.whole(self.statement, at + 1), "STRIPE"
+        begin, layer, width, shape, points = at, self.word(at), self.routed.whole(self.statement, at + 1), "", []
         at += 2
         if self.word(at) == "+" and self.word(at + 1) == "SHAPE":
             shape, at = self.word(at + 2), at + 3
-        point = None
         while self.word(at) == "(":
-            found, at_next = self._point(at, point)
-            if point is not None:
-                self._segment(layer, width, shape, point, found, self.lines[at])
-            point, at = found, at_next
+            found, at_next = self._point(at, points[-1] if points else None)
+            if points:
+                self._segment(layer, width, shape, points[-1], found, self.lines[at])
+            points.append(found)
+            at = at_next
         if self.word(at) not in ("", "+", "NEW"):
-            at = self._take_array(at, point)
-        if point is None or self.word(at) not in ("", "+", "NEW"):
+            at = self._take_array(at, points[-1] if points else None)
+        if not points or self.word(at) not in ("", "+", "NEW"):
             self.refuse(at)
+        if self.kept is not None:
+            self.kept.append(Path(layer, width, shape, points, self.words[begin:at], self.lines[begin]))
         return at
 
     def _point(self, at, before):
@@ -127,15 +150,16 @@ class Paths:
         return tuple(values), end + 1
 
     def _segment(self, layer, width, shape, one, other, line):
-        """A segment between two points, lengthened beyond each of them."""
+        """A segment between two points, lengthened beyond each of them. Between two equal points it goes along x, and is none without a lengthening."""
         if one[0] != other[0] and one[1] != other[1]:
             raise Refused(self.routed.path, line, "a segment goes along x or along y")
-        along = 1 if one[0] == other[0] and one[1] != other[1] else 0
-        first, last = sorted((one, other), key=lambda point: point[along])
+        along = 0 if one[1] == other[1] else 1
+        first, last = (one, other) if one[along] <= other[along] else (other, one)
         ends = [list(first[:2]), list(last[:2])]
         ends[0][along] -= first[2]
         ends[1][along] += last[2]
-        self.segments.append(Piece(layer, width, shape, *ends[0], *ends[1], line))
+        if ends[0] != ends[1]:
+            self.segments.append(Piece(layer, width, kind_of(shape, along == 0), *ends[0], *ends[1], line))
 
     def _take_array(self, at, point):
         """Takes the via at the end of a path: the place behind it."""
@@ -146,9 +170,14 @@ class Paths:
         return at + (2 if self.word(at + 1) == "N" else 1)
 
 
+def kind_of(shape, is_horizontal):
+    """What a shape counts as: a ring, along x a rail, and else a strap."""
+    return shape if shape == "RING" or (shape == "FOLLOWPIN" and is_horizontal) else "STRIPE"
+
+
 def joined_pieces(segments):
-    """The segments as pieces: those of one layer, width and centre line that meet are one, with the shape of a rail where one of
-    them is a rail, in the order of the first of each."""
+    """The segments as pieces: those of one layer, width and centre line that meet are one, with the first of the shapes of all,
+    in the order of the first of each."""
     lines = {}
     for place, segment in enumerate(segments):
         across = segment.y1 if segment.is_horizontal else segment.x1
@@ -169,7 +198,6 @@ def joined_pieces(segments):
 
 def joined_piece(segments, start, end):
     """The piece that some segments make from start to end."""
-    first = segments[0]
-    shape = next((segment.shape for segment in segments if segment.shape == "FOLLOWPIN"), first.shape)
+    first, shape = segments[0], min((segment.shape for segment in segments), key=_SHAPES.index)
     ends = (start, first.y1, end, first.y1) if first.is_horizontal else (first.x1, start, first.x1, end)
     return Piece(first.layer, first.width, shape, *ends, first.line)

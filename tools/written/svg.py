@@ -1,5 +1,6 @@
 """Elements of SVG, with whole numbers."""
 import re
+from functools import cache, lru_cache
 from xml.sax.saxutils import escape, quoteattr
 
 _UNFIT = re.compile("[\x00-\x08\x0b-\x1f\x7f\ud800-\udfff\ufffe\uffff]")
@@ -10,9 +11,21 @@ def fit(text):
     return _UNFIT.sub("\ufffd", text)
 
 
+@cache
+def attribute(key):
+    """The name of an attribute."""
+    return key.rstrip("_").replace("_", "-")
+
+
+@lru_cache(1000)
+def quoted(text):
+    """The value of an attribute."""
+    return quoteattr(fit(text))
+
+
 def element(name, content="", **attributes):
     """An element. Underscores in names of attributes stand for hyphens, and one at the end for nothing."""
-    words = "".join(f" {key.rstrip('_').replace('_', '-')}={quoteattr(fit(str(value)))}" for key, value in attributes.items())
+    words = "".join([f' {attribute(key)}="{value}"' if type(value) is int else f" {attribute(key)}={quoted(str(value))}" for key, value in attributes.items()])
     return f"<{name}{words}>{content}</{name}>" if content else f"<{name}{words}/>"
 
 

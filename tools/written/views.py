@@ -1,7 +1,7 @@
 """What a map shows: the bound of the drop, or the share of its limit that the bound of the current takes."""
 from typing import NamedTuple, Optional
 
-from .bounds import current, is_over, share
+from .bounds import is_over, share
 from .units import milliamperes, millivolts, percent
 
 
@@ -27,9 +27,10 @@ class Drop:
     def __init__(self, drops):
         self.drops, self.report = drops, drops.report
 
-    def reading(self, branch):
-        ends = self.report.branches[branch][:2]
-        return Reading(max(self.drops.bounds[end] for end in ends), any(self.drops.is_beyond(end) for end in ends))
+    def readings(self):
+        """What is shown of each branch."""
+        beyond = self.drops.beyond
+        return [Reading(drop, beyond[branch[0]] or beyond[branch[1]]) for drop, branch in zip(self.drops.drops, self.report.branches)]
 
     def mark(self, net):
         """The worst node of a net, or None."""
@@ -49,9 +50,9 @@ class Current:
     def __init__(self, drops):
         self.drops, self.report = drops, drops.report
 
-    def reading(self, branch):
-        held = self.report.branches[branch]
-        return Reading(share(held), is_over(held))
+    def readings(self):
+        """What is shown of each branch."""
+        return [Reading(share(branch), is_over(branch)) for branch in self.report.branches]
 
     def mark(self, net):
         """The branch of a net that is nearest to its limit or furthest beyond it, or None."""
@@ -72,11 +73,12 @@ class Current:
 
 def words_of(drops, branches):
     """What hovering says of some branches: their bounds of drop and current, and the least good verdict."""
-    held = [drops.report.branches[branch] for branch in branches]
-    drop = max(drops.bounds[end] for branch in held for end in (branch.start, branch.end))
-    lines = [f"drop at most {millivolts(drop)} mV"]
-    most = max(held, key=lambda branch: (share(branch) or 0, current(branch)))
-    verdict = next(word for word in ("UNSAFE", "OPEN", "NOLIMIT", "SAFE") if any(branch.verdict == word for branch in held))
-    taken = "" if share(most) is None else f", {percent(share(most))} % of its limit"
-    lines.append(f"current at most {milliamperes(current(most))} mA{taken}: {verdict}")
+    all_drops, strains, held = drops.drops, drops.strains, drops.report.branches
+    lines = [f"drop at most {millivolts(max([all_drops[branch] for branch in branches]))} mV"]
+    most = max(branches, key=strains.__getitem__)
+    part, carried = strains[most]
+    verdicts = {held[branch][5] for branch in branches}
+    verdict = next(word for word in ("UNSAFE", "OPEN", "NOLIMIT", "SAFE") if word in verdicts)
+    taken = f", {percent(part)} % of its limit" if held[most].limit else ""
+    lines.append(f"current at most {milliamperes(carried)} mA{taken}: {verdict}")
     return "\n".join(lines)

@@ -36,7 +36,9 @@ class Status(NamedTuple):
 
 
 STATUSES = (
-    Status("0", "Done. Of `build` and `signoff`: no verdict is UNSAFE or OPEN", "all outputs are written"),
+    Status("0", "Done. Of `build` and `signoff`: no verdict is UNSAFE or OPEN",
+           "all outputs are written, that is, handed to the system; where a file system tells of a lost write only when a file is closed, as NFS may, ask "
+           "`check` and `tools/check_report` before you believe them"),
     Status("1", "`build` and `signoff`: done, and some verdict is UNSAFE or OPEN", "all outputs are written"),
     Status("2", "The words are those of no command; of `bin/pdn` also: an output is no file of its own", "nothing was made or changed"),
     Status("3", "A file, or standard output, could not be read or written",
@@ -64,7 +66,7 @@ SUCCESSES = (
 WORDS = (
     Answer(2, "Usage", ("all",),
            "the words are not those of a command: each option of a command stands once, with a value that is not empty, does not begin with `-` and "
-           "has no line feed, and the outputs have different names",
+           "has no line feed, a count is within its range, and the outputs have different names",
            "see `pdn help COMMAND`"),
 )
 
@@ -107,7 +109,7 @@ KINDS = (
     Answer(4, "Number Vanishes", (LEF, CELLS, SCRIPT, BIAS, NETLIST, WAVES),
            "the number is not 0, and is too small for the places that are kept of it",
            "check the unit: lengths are in micrometres, resistances in ohms, currents in amperes"),
-    Answer(4, "Number Range", TEXTS, "the number passes the limit of its place", "check the unit"),
+    Answer(4, "Number Range", TEXTS, "the number exceeds the limit of its place (docs/GUIDE.md, \"Units and limits\")", "check the unit"),
     Answer(4, "Twice", (LEF,), "a layer or a rule before has this name", "remove one of the two"),
     Answer(4, "Twice", (CELLS,), "a site or a macro before has this name", "remove one of the two"),
     Answer(4, "Twice", (DEF,), "DESIGN, UNITS or DIEAREA stands a second time, or a component or a region before has this name", "remove one of the two"),
@@ -135,10 +137,12 @@ KINDS = (
            "`pdngen` are, and `add_global_connection` and `global_connect` are passed over",
            "mend its name, or leave it out"),
     Answer(4, "UnknownOption", (SCRIPT,), "the command has no such option, or has it on grids with `-macro` alone", "mend its name, or leave it out"),
-    Answer(4, "OutOfProfile", (SCRIPT,), "the option is one of OpenROAD's that is not read here", "leave it out where the grid may be without it"),
+    Answer(4, "OutOfProfile", (SCRIPT,), "the option is one of OpenROAD's, for what `pdn` does not draw",
+           "leave it out where the grid may be without it, as `tools/prepare --leave-out` does; else let OpenROAD draw the grid, and sign it off by `pdn signoff`"),
     Answer(4, "UnknownGrid", (SCRIPT,), "no command before has defined this grid, or any grid", "define it by `define_pdn_grid` before, or mend the name"),
     Answer(4, "UnknownDomain", (SCRIPT,), "no command before has defined this domain, or any domain", "define it by `set_voltage_domain` before, or mend the name"),
-    Answer(4, "MissingOption", (SCRIPT,), "the command ends without an option that it needs; only one domain may be without `-region`", "add the option"),
+    Answer(4, "MissingOption", (SCRIPT,), "the command ends without an option that it needs; only one domain may be without `-region`",
+           "add the option; the `-width` of rails `tools/prepare` takes from the pins of the cells"),
     Answer(4, "NetUse", (SCRIPT,), "the net is named as power and as ground", "name two nets"),
     Answer(4, "Falling", (BIAS,), "the second number of a range is below the first", "exchange the two numbers"),
     Answer(4, "Falling", (WAVES,), "the step is below that of the line before, or the second number of a range is below the first",
@@ -194,9 +198,10 @@ DRAWING = (
     Answer(5, "TooMany Lines", ("build",), "a command draws more than 10^6 lines", "check the pitch"),
     Answer(5, "TooMany Pieces", ("build",), "there are more than 4·10^6 pieces of metal", "check the pitch"),
     Answer(5, "TooMany Stacks", ("build",), "there are more than 10^6 stacks", "check the pitch"),
-    Answer(5, "TooMany Segments", ("signoff",), "there are more than 10^6 segments", "sign off a part of the wiring"),
-    Answer(5, "TooMany Vias", ("signoff",), "there are more than 10^6 vias", "sign off a part of the wiring"),
-    Answer(5, "NoSheet <layer>", ALL_GRIDS, "metal lies on a layer without `RESISTANCE RPERSQ`", "state it in the technology"),
+    Answer(5, "TooMany Segments", ("signoff",), "there are more than 10^6 segments", "sign off each supply domain or each block by itself (docs/SCALE.md has what that neglects); a piece of the die has no bound"),
+    Answer(5, "TooMany Vias", ("signoff",), "there are more than 10^6 vias", "sign off each supply domain or each block by itself (docs/SCALE.md has what that neglects); a piece of the die has no bound"),
+    Answer(5, "NoSheet <layer>", ALL_GRIDS, "metal lies on a layer without `RESISTANCE RPERSQ`",
+           "state it in the technology, or hand it to `tools/prepare` by `--sheet-resistance` or `--layer-rc`"),
     Answer(5, "Stack NoRule <layer> <x> <y>", ("build",),
            "at the crossing at this place, in units, no rule joins the layer to the next one at these widths",
            "add the rule, or widen its `WIDTH` range"),
@@ -206,9 +211,9 @@ DRAWING = (
            "may lie between those of the two straps; the place is in units, from the design's origin",
            "widen the strap, rail or ring at the place, or, of a kit that patches its inner layers, see `--model-cuts` of docs/PREPARE.md"),
     Answer(5, "Stack NoResistance <layer> <x> <y>", ("build",), "neither the rule nor the cut layer above this layer has a resistance",
-           "state it in the technology"),
+           "state it in the technology, or hand it to `tools/prepare` by `--via-resistance` or `--layer-rc`"),
     Answer(5, "NoResistance <layer>", ("signoff",), "neither the rule of a via that begins on this layer nor its cut layer has a resistance",
-           "state it in the technology"),
+           "state it in the technology, or hand it to `tools/prepare` by `--via-resistance` or `--layer-rc`"),
     Answer(5, "NetCount <power> <ground>", ("signoff",), "so many power nets and ground nets have wiring, and not one of each",
            "leave out the others, or state `+ USE POWER` and `+ USE GROUND`"),
     Answer(5, "ViaLayers <via>", ("signoff",),
@@ -219,10 +224,13 @@ DRAWING = (
            "at this place, in units, a stack begins or ends with this via on no centre line of a piece of its net and layer",
            "put a segment through the place, or move the via to it"),
     Answer(5, "Touch <layer> <first> <second> true", ALL_GRIDS,
-           "two pieces of metal of one net, or a piece and the inside of a stack, touch along no common line: the corners of both in units. The "
-           "network would not have the joint",
-           "`build`: use another layer, offset or pitch; `signoff`: join them by one segment, or by vias"),
-    Answer(5, "Touch <layer> <first> <second> false", ALL_GRIDS, "metal of two nets touches, which is a short: the corners of both in units", "move one of the two"),
+           "metal of one net touches along no common line: two pieces, a piece and a stack, or two stacks. A stack has metal on each layer between the two that it "
+           "joins, so it may be a layer that the script never names. The first and the second are four numbers each, x1 y1 x2 y2 in units. The network would not have "
+           "the joint",
+           "`build`: change `-offset`, `-spacing`, `-width` or `-pitch` of one of them, or the `-halo` of a block's grid; of a connect of the core over a block see "
+           "docs/PREPARE.md, \"Script\"; `signoff`: join them by one segment, or by vias"),
+    Answer(5, "Touch <layer> <first> <second> false", ALL_GRIDS, "metal of two nets touches, which is a short: pieces or stacks, with the same eight numbers",
+           "move one of the two, as above"),
 )
 
 EXTRACTION = (
@@ -233,25 +241,28 @@ EXTRACTION = (
     Answer(5, "LoadOff <component>", ALL_GRIDS,
            "the component draws a current and is not placed, has no known macro or no domain, or no rail of a net passes it; where a grid over "
            "macros stands, a block draws one and has no domain, or no pin of one of its domain's nets that a stack joins to the grid",
-           "place it on a row, or state no current; connect the layer of the block's pins"),
+           "place it on a row; connect the layer of the block's pins. Taking its current out makes `pdn` blind to it"),
 )
 
 NETWORK = (
-    Answer(6, "Range Nodes <at> <number>", ("all",), "there are more than 2·10^6 nodes; of `step` each node with a capacitor counts twice", "a sparser grid"),
-    Answer(6, "Range Resistors <at> <number>", ("all",), "there are more than 4·10^6 resistors; of `step` each capacitor counts as one", "a sparser grid"),
+    Answer(6, "Range Nodes <at> <number>", ("all",), "there are more than 2·10^6 nodes; of `step` each node with a capacitor counts twice",
+           "a sparser grid, or split it as docs/SCALE.md says"),
+    Answer(6, "Range Resistors <at> <number>", ("all",), "there are more than 4·10^6 resistors; of `step` each capacitor counts as one",
+           "a sparser grid, or split it as docs/SCALE.md says"),
     Answer(6, "Range Resistance <at> <number>", ("build", "signoff", "solve", "check"),
            "a resistance, in nano-ohms, is not from 1 to 10^12, which is 1000 ohms; the place counts resistors from 0",
-           "check RPERSQ, the resistances of cuts, or the card; a short is written as 0"),
+           "check RPERSQ, the resistances of cuts, or the card; a short is written as 0, and a true resistor above 1000 ohms as several in a row"),
     Answer(6, "Range Resistance <at> <number>", ("step",),
            "a resistance, or the step over a capacitance, T/C, in nano-ohms, is not from 1 to 10^12, which is 1000 ohms; the places of capacitors "
            "come behind those of the resistors, from 0",
            "longer steps, or leave out what is so small"),
-    Answer(6, "Range Voltage <at> <number>", ("all",), "a supply passes 10 V, in yoctovolts; of `step` also a bound at a capacitor",
+    Answer(6, "Range Voltage <at> <number>", ("all",), "a supply exceeds 10 V, in yoctovolts; of `step` also a bound at a capacitor",
            "check the voltage and its scale"),
     Answer(6, "Range Loads <at> <number>", ("all",),
-           "the currents come to more than 1000 A, in femtoamperes, where each counts at both of its nodes; of `step` in some step",
+           "the currents come to more than 1000 A, in femtoamperes, where each counts at each of its nodes but `0`, so that the cells of a grid come to more than 500 A; of "
+           "`step` in some step",
            "check the scales: `333.3u` is microamperes"),
-    Answer(6, "Range Steps <at> <number>", ("step",), "steps times nodes pass 5·10^6", "fewer steps"),
+    Answer(6, "Range Steps <at> <number>", ("step",), "steps times nodes exceed 5·10^6", "fewer steps"),
     Answer(6, "FloatingCapacitor <node>", ("step",),
            "a capacitor that is not 0 joins two groups of which none is a pad; the earlier group of the first such capacitor",
            "tie both nodes to ground by a capacitor each, or leave it out"),
@@ -263,8 +274,10 @@ NETWORK = (
            "the inequality of this node on this side does not hold; the number is what was found there. The sides are HighValue and LowValue (a "
            "voltage beyond ±10^37 yV), HighFlow and LowFlow (a flow beyond ±10^31 fA), High and Low (the inequality at the node; at a pad the number "
            "is the voltage less the pad's)",
-           "take the certificate that was written for this very netlist; one that was changed, or is of another run, does not hold"),
-    Answer(10, "Want", ("all",), "memory ran out; nothing was found out of the input", "run it where there is more memory, or on a smaller input"),
+           "take the certificate that was written for this very netlist; one that was changed, or is of another run, does not hold. Or the netlist has a node that no pad "
+           "feeds: `pdn solve` says which"),
+    Answer(10, "Want", ("all",), "memory ran out; nothing was found out of the input. Or vias of foreign wiring that stand twice at one place make more than 10^6 chains above their "
+           "number: the same again then, whatever the memory", "run it where there is more memory, or on a smaller input"),
 )
 
 REFUSALS = WORDS + FILES + KINDS + DRAWING + EXTRACTION + NETWORK

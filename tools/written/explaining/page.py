@@ -10,6 +10,9 @@ a refusal is about, with its values; `--quiet` leaves that out. A refusal's line
 The cause that is named is the first in the order of the work: the texts in the order technology, cells, design, script or wiring, bias, or netlist, certificate, waves; then
 the drawing, the extraction and the network.
 """
+STATUS_NOTE = """
+8 is not used. A run that a signal ended has, in a shell, 128 and the number of the signal: 137 where it was killed, as where the system is out of memory. Its outputs may be incomplete, as with 10.
+"""
 PARTS = (
     ("Status 2: the words", "`pdn: Usage`. With `--explain` standard error says which word is at fault. Where `bin/pdn` ends with 2 and no line, an output is an input, a second output, standard output, a folder, a "
      "pipe or a device, and standard error says which; `--force` lets it through.", answers.WORDS),
@@ -34,6 +37,7 @@ def answers_page():
     """The page's text."""
     page = HEAD + "\n## Statuses\n\n"
     page += table(("Status", "It says", "Files"), ((status.number, status.says, status.files) for status in answers.STATUSES))
+    page += STATUS_NOTE
     page += "\n## Done: the line\n\n"
     page += table(("Line", "Status", "It means"), ((f"`{line}`", status, means) for line, status, means in answers.SUCCESSES))
     for title, about, part in PARTS:

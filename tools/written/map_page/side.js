@@ -60,7 +60,7 @@ Object.assign(Page.prototype, {
       const [from, to] = [band, band + 1].map((k) => Number((k * scale.step).toPrecision(6)));
       lines.push([css(scale.colours[band]), `${from} to ${to}${band === scale.count - 1 && this.state.top ? " and above" : ""}`]);
     }
-    if (this.codes.branches.includes(scale.beyond)) lines.unshift([css(this.data.head.beyond), quantity.of === "node" ? "may pass the drop limit" : "may pass its limit"]);
+    if (this.codes.branches.includes(scale.beyond)) lines.unshift([css(this.data.head.beyond), quantity.of === "node" ? "may exceed the drop limit" : "may exceed its limit"]);
     lines.push([css(this.data.head.bare), quantity.of === "cell" ? "a cell that is tied to no nodes" : quantity.of === "branch" ? "no limit, or metal without current" : "metal behind the last node"]);
     legend.replaceChildren(...lines.flatMap(([colour, text]) => {
       const swatch = document.createElement("span"), words = document.createElement("span");

@@ -15,13 +15,13 @@ use crate::section::{Section, section_after};
 use crate::sort::{Sort, sort_of};
 use crate::value::Value;
 use number_place::texts_have_one_number;
-use reading::{Found, Heard, Rule, ValueGrammar, Word, told_at};
+use reading::{Found, Grammar, Heard, Rule, Word, told_at};
 use std::alloc::AllocError;
 
 /// The format of bias files, which depends on nothing but the text.
 pub(crate) struct BiasFormat;
 
-impl<'a> ValueGrammar<'a> for BiasFormat {
+impl<'a> Grammar<'a> for BiasFormat {
     type Sort = Sort;
 
     type Section = Section;

@@ -9,7 +9,7 @@ ghost use Rattle.bias_file.specs.declared.error.BiasKind.TheVariants.{Want};
 
 use crate::format::BiasFormat;
 use number_place::texts_have_one_number;
-use reading::valued_texts_have_one_result;
+use reading::texts_have_one_result;
 use text_lex::one_split;
 
 /// A text has one record or one refusal, and not both; want of memory aside.
@@ -19,5 +19,5 @@ pub fn texts_have_one_bias()
 {
     one_split();
     texts_have_one_number();
-    valued_texts_have_one_result(&BiasFormat);
+    texts_have_one_result(&BiasFormat);
 }

@@ -11,7 +11,7 @@ use crate::held::{Held, Lists};
 use crate::record::Bias;
 use entry_list::Entries;
 use number_place::values_fit_their_places;
-use reading::{ReadError, read_valued_into};
+use reading::{ReadError, read_into};
 use std::alloc::Global;
 use text_lex::Mode;
 
@@ -30,7 +30,7 @@ pub fn read_bias(alloc: Global, text: &[u8]) -> Result<Bias, BiasError>
     let Ok(mut held) = Held::new(alloc) else {
         return Err(ReadError::want());
     };
-    match read_valued_into(alloc, &BiasFormat, &mut held, text, Mode::Lines) {
+    match read_into(alloc, &BiasFormat, &mut held, text, Mode::Lines) {
         Ok(()) => Ok(bias_of(held.lists)),
         Err(error) => Err(error),
     }

@@ -16,7 +16,7 @@ use crate::section::{Section, section_after};
 use crate::sort::{Sort, sort_of};
 use fixed_decimal::texts_have_one_answer;
 use outside::Name;
-use reading::{Found, Heard, Rule, ValueGrammar, Word, told_at};
+use reading::{Found, Grammar, Heard, Rule, Word, told_at};
 use std::alloc::AllocError;
 
 /// The format of the certificates of nodes with these names.
@@ -25,7 +25,7 @@ pub(crate) struct CertificateFormat<'n> {
     pub(crate) names: &'n [Name],
 }
 
-impl<'a, 'n> ValueGrammar<'a> for CertificateFormat<'n> {
+impl<'a, 'n> Grammar<'a> for CertificateFormat<'n> {
     type Sort = Sort;
 
     type Section = Section;

@@ -14,7 +14,7 @@ ghost use Rattle.certificate_file.specs.declared.error.CertKind.TheVariants.{Wan
 use crate::format::CertificateFormat;
 use fixed_decimal::texts_have_one_answer;
 use outside::Name;
-use reading::{valued_texts_have_one_result, valued_units_are_read};
+use reading::{texts_have_one_result, whole_units_are_read};
 use text_lex::one_split;
 
 /// A text has one pair of lists or one refusal for these names, and not both; want of memory aside.
@@ -24,7 +24,7 @@ pub fn texts_have_one_certificate(names: &[Name])
 {
     one_split();
     texts_have_one_answer();
-    valued_texts_have_one_result(&CertificateFormat { names });
+    texts_have_one_result(&CertificateFormat { names });
 }
 
 /// A voltage within the limit is written as a word that stands for it.
@@ -43,5 +43,5 @@ pub fn written_certificates_read_back(names: &[Name])
 {
     texts_have_one_answer();
     texts_have_one_certificate(names);
-    valued_units_are_read(&CertificateFormat { names });
+    whole_units_are_read(&CertificateFormat { names });
 }

@@ -7,7 +7,7 @@ use crate::held::Held;
 use crate::lists::Lists;
 use entry_list::Entries;
 use outside::Name;
-use reading::{ReadError, read_valued_into};
+use reading::{ReadError, read_into};
 use std::alloc::Global;
 use text_lex::Mode;
 
@@ -25,7 +25,7 @@ pub fn read_certificate(alloc: Global, text: &[u8], names: &[Name]) -> Result<Li
     let Ok(mut held) = Held::new(alloc, names.len()) else {
         return Err(ReadError::want());
     };
-    match read_valued_into(
+    match read_into(
         alloc,
         &CertificateFormat { names },
         &mut held,

@@ -2,6 +2,10 @@ pub mod Turns
 pub mod Firsts
 pub mod Afters
 pub mod Numbers
+pub mod Shapes
+pub mod Heard
+pub mod Edges
+pub mod Whole
 pub mod Law
 pub mod One
 pub mod Taking

@@ -155,7 +155,7 @@ design_is text said design h name units die rows components blockages regions = 
 
 pub design_kept : Limited → Signed → (text : List (List Token)) (said : Said) (design : Design) → HoldsSaid text said → IsDesign text design →
     design.components ≡ said.components.items.items → design.regions ≡ said.regions.items.items →
-    AreDistinct said.components.names → AreDistinct said.regions.names → DesignKeeps design
+    AreDistinct said.components.names.names → AreDistinct said.regions.names.names → DesignKeeps design
 design_kept limited signed text said design h is components regions one two = record {
   some_units = (stated_kept SaysUnits (λ n. (1 ≤ n) × (n ≤ 20000)) (units_kept limited signed) _ (Some design.units) is.units).0;
   units = (stated_kept SaysUnits (λ n. (1 ≤ n) × (n ≤ 20000)) (units_kept limited signed) _ (Some design.units) is.units).1;

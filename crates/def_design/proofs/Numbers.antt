@@ -1,5 +1,5 @@
 -- Numbers: those that are refused, and those that are read.
-use Rattle.std.proofs.Common.{◌≡◌, ◌↔◌, IsTrue, Bool, true, false, ◌≤◌, ◌<◌, ℕ, ℤ, pos, List, Result, Ok, Err, inl, inr, refl, sym, ◌∙◌, ap, subst, arith, to_z, of_z, length, Contains}
+use Rattle.std.proofs.Common.{◌≡◌, ◌↔◌, IsTrue, Bool, true, false, ◌≤◌, ℕ, ℤ, pos, List, Result, Ok, Err, inl, inr, refl, sym, ◌∙◌, ap, subst, arith, to_z, of_z}
 use Rattle.std.specs.Prelude.{unsigned_abs}
 use Rattle.std.specs.Int.{w64}
 use Rattle.std.proofs.lemmas.Int.{to_z-of_z, fits_signed_from_abs}
@@ -10,11 +10,9 @@ use Rattle.def_design.specs.declared.number.Quantity.{Quantity}
 use Rattle.def_design.specs.declared.number.Quantity.TheVariants.{Any, NotNegative, Positive, Microns}
 use Rattle.def_design.specs.Fault.{refused_kind, NumberFault, ApartFault, OneFault, NoArea, DieEndFault}
 use Rattle.def_design.specs.Number.{place_of, IsNumber, IsSame}
-use Rattle.def_design.specs.Record.{SaysCount}
 use Rattle.def_statements.specs.declared.sort.Sort.{Sort}
 use Rattle.def_statements.specs.declared.sort.Sort.TheVariants as sorts
 use Rattle.def_statements.specs.Unit.{text_at}
-use Rattle.name_table.specs.Numbering.{TakesName}
 use Rattle.number_place.specs.declared.place.NumberPlace.{NumberPlace}
 use Rattle.number_place.specs.declared.place.Refused.{Refused}
 use Rattle.number_place.specs.Place.{IsNumberAt, HasSign}
@@ -75,17 +73,18 @@ Signed = (place : NumberPlace) (text : List ℕ) (value : ℤ) → IsNumberAt pl
 
 -- ## what is found
 
--- A text that is no number is the same number as none.
-pub no_same : (one other : List ℕ) (r : Refused) → IsOnly (place_of Any) one (Err r) → IsSame one other → ⊥
-no_same one other r only h = no_error r h.0 (sym (only (Ok h.0) h.1))
+-- Two numbers that are read are the same number where their texts are.
+pub same_numbers : HasOne → (s t : List ℕ) (x z : ℤ) → IsNumber Any s x → IsNumber Any t z → IsSame s t → x ≡ z
+same_numbers one s t x z h k same = sym (value_one one Any s same.0 x same.1 h) ∙ value_one one Any t same.0 z same.2 k
 
-pub no_same_other : (one other : List ℕ) (r : Refused) → IsOnly (place_of Any) other (Err r) → IsSame one other → ⊥
-no_same_other one other r only h = no_error r h.0 (sym (only (Ok h.0) h.2))
+pub are_same : (s t : List ℕ) (x z : ℤ) → IsNumber Any s x → IsNumber Any t z → x ≡ z → IsSame s t
+are_same s t x z h k e = (x, h, subst (λ v. IsNumber Any t v) (sym e) k)
 
 -- A number that is read and another than that four words before is fine.
-pub none_apart : (other text : List ℕ) → ((kind : DefKind) → NumberFault Any text kind → ⊥) → (IsSame other text → ⊥) → (kind : DefKind) → ApartFault other text kind → ⊥
-none_apart other text fine differs kind (inl h) = fine kind h
-none_apart other text fine differs kind (inr h) = differs h.1
+pub none_apart : HasOne → (edge text : List ℕ) (other v : ℤ) → IsNumber Any edge other → IsNumber Any text v → ((kind : DefKind) → NumberFault Any text kind → ⊥) → (v ≡ other → ⊥) →
+    (kind : DefKind) → ApartFault edge text kind → ⊥
+none_apart one edge text other v h k fine differs kind (inl f) = fine kind f
+none_apart one edge text other v h k fine differs kind (inr f) = differs (sym (same_numbers one edge text other v h k f.1))
 
 -- A count of 1 is fine.
 pub none_more : (text : List ℕ) (v : ℤ) → v ≡ pos 1 → IsOnly (place_of Positive) text (Ok v) → (kind : DefKind) → OneFault text kind → ⊥
@@ -115,7 +114,7 @@ die_fine unit last other area kind h = area h.1
 
 -- ## numbers of the machine
 
-kept : (quantity : Quantity) (v : ℤ) → unsigned_abs v ≤ (place_of quantity).limit → to_z w64 (of_z w64 v) ≡ v
+pub kept : (quantity : Quantity) (v : ℤ) → unsigned_abs v ≤ (place_of quantity).limit → to_z w64 (of_z w64 v) ≡ v
 kept Any v h = to_z-of_z w64 v (fits_signed_from_abs w64 v (omega arith))
 kept NotNegative v h = to_z-of_z w64 v (fits_signed_from_abs w64 v (omega arith))
 kept Positive v h = to_z-of_z w64 v (fits_signed_from_abs w64 v (omega arith))
@@ -125,14 +124,13 @@ pub read_as : (quantity : Quantity) (text own : List ℕ) (v : ℤ) → text ≡
 read_as quantity text own v same is =
     subst (λ z. IsNumber quantity own z) (sym (kept quantity v is.1.2.within)) (subst (λ z. IsNumber quantity z v) same is)
 
-pub counted_as : (says : Bool) (unit : List Token) (v : ℤ) → SaysCount says unit v → SaysCount says unit (to_z w64 (of_z w64 v))
-counted_as true unit v is = read_as Positive (text_at 7 unit) (text_at 7 unit) v refl is
-counted_as false unit v is = ap (λ z. to_z w64 (of_z w64 z)) is
-
--- A name that the table has grown by is new.
-pub new_name : (old new : List (List ℕ)) (name own : List ℕ) → name ≡ own → length old < length new → TakesName old new name → Contains old own → ⊥
-new_name old new name own same more (inl h) there = omega (arith, more, ap length h.1)
-new_name old new name own same more (inr h) there = h.0 (subst (λ z. Contains old z) (sym same) there)
-
 pub one_is : (text : List ℕ) (v : ℤ) → of_z w64 v ≡ 1 → IsNumber Positive text v → v ≡ pos 1
 one_is text v e is = sym (kept Positive v is.1.2.within) ∙ ap (λ z. to_z w64 z) e
+
+-- Two numbers of the machine are one where their texts are one number.
+pub same_side : HasOne → (s t : List ℕ) (x z a b : ℤ) → IsNumber Any s x → IsNumber Any t z → a ≡ x → b ≡ z → (same : Bool) →
+    IsTrue same ↔ (to_z w64 (of_z w64 a) ≡ to_z w64 (of_z w64 b)) → IsTrue same ↔ IsSame s t
+same_side one s t x z a b h k e f same tells =
+    let left : to_z w64 (of_z w64 a) ≡ x = ap (λ v. to_z w64 (of_z w64 v)) e ∙ kept Any x h.1.2.within in
+    let right : to_z w64 (of_z w64 b) ≡ z = ap (λ v. to_z w64 (of_z w64 v)) f ∙ kept Any z k.1.2.within in
+    (λ is. are_same s t x z h k (sym left ∙ tells.0 is ∙ right), λ is. tells.1 (left ∙ same_numbers one s t x z h k is ∙ sym right))

@@ -64,6 +64,22 @@ named_stays says is units unit named body stays h =
       entries = turn_stays says unit stays (blocks is units) named.entries h.entries;
     })
 
+none_stay : {E : Type 0} (says : Block Token → E → Type 0) (unit : List Token) (entries : List (Block Token)) (es : List E) → es ≡ [] →
+    InTurn says entries es → InTurn says (with_unit entries unit) es
+none_stay says unit [] es none h = h
+none_stay says unit (b ∷ entries) [] none h = absurd h
+none_stay says unit (b ∷ entries) (e ∷ es) none h = absurd (cc)
+
+-- Another unit where there is no entry yet.
+pub named_none : {E : Type 0} (says : Block Token → E → Type 0) (is : List Token → Bool) (units : List (List Token)) (unit : List Token)
+    (old new : NamedList E) → is unit ≡ false → new.names ≡ old.names → old.entries ≡ [] → new.entries ≡ old.entries →
+    HoldsNamed says head_name (blocks is units) old → HoldsNamed says head_name (blocks is (units ++ unit ∷ [])) new
+named_none {E} says is units unit old new body same none kept h =
+    subst (λ z. HoldsNamed says head_name z new) (sym (blocks-body is units unit body)) (record {
+      names = same ∙ h.names ∙ sym (names_stay unit (blocks is units));
+      entries = subst (λ (z : List E). InTurn says (with_unit (blocks is units) unit) z) (sym kept) (none_stay says unit (blocks is units) old.entries none h.entries);
+    })
+
 -- Another unit that changes the last entry.
 pub named_last : {E : Type 0} (says : Block Token → E → Type 0) (is : List Token → Bool) (units : List (List Token)) (unit : List Token)
     (old new : NamedList E) (es : List E) (e f : E) → is unit ≡ false → new.names ≡ old.names → old.entries ≡ es ++ e ∷ [] → new.entries ≡ es ++ f ∷ [] →

@@ -1,17 +1,18 @@
 //! The blockages of a design.
 ghost use Rattle.std.specs.Prelude.{◌≡◌, ◌||◌, [], None, false, OnOk, map};
-ghost use Rattle.def_design.specs.inside.Held.{HoldsBlockages, FirstSays, GoesOn, Leads, AddsRect};
+ghost use Rattle.def_design.specs.inside.Held.{HoldsBlockages, FirstSays, GoesOn, Leads, AddsRect, WhenWhole};
 ghost use Rattle.def_design.specs.Record.{SaysSpacing};
-ghost use Rattle.def_design.specs.Unit.{is_spacing, excepts};
-ghost use Rattle.reading.specs.Word.{token};
+ghost use Rattle.def_design.specs.Unit.{is_spacing};
+ghost use Rattle.def_design.specs.inside.Value.{said_excepts};
+ghost use Rattle.reading.specs.Word.{heard_token};
 
 use crate::corners::rect_of;
 use crate::kinds::excepts;
-use crate::number::{Quantity, number_of};
 use crate::record::Blockage;
-use def_statements::{Sort, begins, text_at};
+use crate::value::{Value, begins, number_at, text_at};
+use def_statements::Sort;
 use outside::Name;
-use reading::Word;
+use reading::Heard;
 use std::alloc::{AllocError, Global};
 
 /// What the last entry over a layer has said so far.
@@ -44,42 +45,40 @@ impl<'a> Open<'a> {
     }
 
     /// Its spacing, if the unit says the first one.
-    fn take_spacing(&mut self, unit: &[Word<'a>]) -> Result<(), AllocError>
+    fn take_spacing(&mut self, unit: &[Heard<'a, Value>])
         ensures layer { self.new.layer ≡ self.old.layer }
-        ensures spacing { OnOk result
-            (Leads (FirstSays is_spacing SaysSpacing) (map token unit.now) self.old.spacing self.new.spacing) }
+        ensures spacing { WhenWhole unit.now
+            (Leads (FirstSays is_spacing SaysSpacing) (map heard_token unit.now) self.old.spacing self.new.spacing) }
         ensures excepts { self.new.excepts ≡ self.old.excepts }
     {
         if !begins(Sort::Spacing, 2, unit) {
-            return Ok(());
+            return;
         }
         if self.spacing.is_some() {
-            return Ok(());
+            return;
         }
-        self.spacing = Some(number_of(Quantity::NotNegative, text_at(1, unit))?);
-        Ok(())
+        self.spacing = Some(number_at(1, unit));
     }
 
     /// Whether it excepts the wires of power grids, with one more unit.
-    fn take_excepts(&mut self, unit: &[Word<'a>])
+    fn take_excepts(&mut self, unit: &[Heard<'a, Value>])
         ensures layer { self.new.layer ≡ self.old.layer }
         ensures spacing { self.new.spacing ≡ self.old.spacing }
-        ensures excepts { self.new.excepts ≡ (self.old.excepts || excepts (map token unit.now)) }
+        ensures excepts { self.new.excepts ≡ (self.old.excepts || said_excepts unit.now) }
     {
         self.excepts = self.excepts || excepts(unit);
     }
 
     /// One more unit of the entry, or the head of another one.
-    fn take(&mut self, unit: &[Word<'a>]) -> Result<(), AllocError>
-        ensures { OnOk result (GoesOn (map token unit.now) self.old self.new) }
+    fn take(&mut self, unit: &[Heard<'a, Value>])
+        ensures { WhenWhole unit.now (GoesOn (map heard_token unit.now) self.old self.new) }
     {
         if begins(Sort::Layer, 2, unit) {
             *self = Open::new(text_at(1, unit));
-            return Ok(());
+            return;
         }
-        self.take_spacing(unit)?;
+        self.take_spacing(unit);
         self.take_excepts(unit);
-        Ok(())
     }
 }
 
@@ -94,9 +93,9 @@ impl<'a> Blockages<'a> {
     }
 
     /// One more rectangle, if the unit says one that blocks wires.
-    fn add(&mut self, alloc: Global, unit: &[Word<'a>]) -> Result<(), AllocError>
+    fn add(&mut self, alloc: Global, unit: &[Heard<'a, Value>]) -> Result<(), AllocError>
         ensures open { self.new.open ≡ self.old.open }
-        ensures items { OnOk result (AddsRect (map token unit.now) self.old self.new) }
+        ensures items { OnOk result (WhenWhole unit.now (AddsRect (map heard_token unit.now) self.old self.new)) }
     {
         if !begins(Sort::Rect, 9, unit) {
             return Ok(());
@@ -107,16 +106,22 @@ impl<'a> Blockages<'a> {
         self.items.push(Blockage {
             layer: Name::new(alloc, self.open.layer)?,
             spacing: self.open.spacing,
-            rect: rect_of(2, unit)?,
+            rect: rect_of(2, unit),
         })?;
         Ok(())
     }
 
     /// What a whole unit says of the blockages.
-    pub(crate) fn take(&mut self, alloc: Global, unit: &[Word<'a>]) -> Result<(), AllocError>
-        ensures { OnOk result (Leads HoldsBlockages (map token unit.now) self.old self.new) }
+    pub(crate) fn take(
+        &mut self,
+        alloc: Global,
+        unit: &[Heard<'a, Value>],
+    ) -> Result<(), AllocError>
+        ensures { OnOk result (WhenWhole unit.now
+            (Leads HoldsBlockages (map heard_token unit.now) self.old self.new)) }
     {
         self.add(alloc, unit)?;
-        self.open.take(unit)
+        self.open.take(unit);
+        Ok(())
     }
 }

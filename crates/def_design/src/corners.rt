@@ -1,13 +1,12 @@
 //! Rectangles by two corners.
-ghost use Rattle.std.specs.Prelude.{◌≡◌, ◌≤◌, IfOk, map};
-ghost use Rattle.def_design.specs.Record.{SaysPoint, SaysRect, SaysArea, between};
-ghost use Rattle.reading.specs.Word.{token};
+ghost use Rattle.std.specs.Prelude.{◌≡◌, ◌≤◌, ◌+◌, map};
+ghost use Rattle.def_design.specs.Record.{SaysPoint, SaysRect, between};
+ghost use Rattle.def_design.specs.inside.Value.{IsCoordinate, HasCorners};
+ghost use Rattle.reading.specs.Word.{heard_token};
 
-use crate::number::{Quantity, number_of};
-use def_statements::text_at;
+use crate::value::{Value, number_at};
 use geom_rect::Rect;
-use reading::Word;
-use std::alloc::AllocError;
+use reading::Heard;
 
 /// A point of the design.
 #[derive(Clone, Copy, Debug)]
@@ -17,14 +16,15 @@ pub(crate) struct Point {
 }
 
 /// The point that the word says which has n words before it, with the next one.
-pub(crate) fn point_of(n: usize, unit: &[Word<'_>]) -> Result<Point, AllocError>
+pub(crate) fn point_of(n: usize, unit: &[Heard<'_, Value>]) -> Point
     requires { n ≤ 8 }
-    ensures { IfOk result (λ point. SaysPoint n (map token unit.now) point.x point.y) }
+    ensures { IsCoordinate n unit.now → IsCoordinate (n + 1) unit.now →
+        SaysPoint n (map heard_token unit.now) result.x result.y }
 {
-    Ok(Point {
-        x: number_of(Quantity::Any, text_at(n, unit))?,
-        y: number_of(Quantity::Any, text_at(n + 1, unit))?,
-    })
+    Point {
+        x: number_at(n, unit),
+        y: number_at(n + 1, unit),
+    }
 }
 
 /// The least rectangle of two points.
@@ -40,25 +40,11 @@ fn between(one: Point, other: Point) -> Rect
 }
 
 /// The rectangle of the points after this many words and after four more.
-pub(crate) fn rect_of(n: usize, unit: &[Word<'_>]) -> Result<Rect, AllocError>
+pub(crate) fn rect_of(n: usize, unit: &[Heard<'_, Value>]) -> Rect
     requires { n ≤ 4 }
-    ensures { IfOk result (SaysRect n (map token unit.now)) }
+    ensures { HasCorners n unit.now → SaysRect n (map heard_token unit.now) result }
 {
-    let one = point_of(n, unit)?;
-    let other = point_of(n + 4, unit)?;
-    Ok(between(one, other))
-}
-
-/// The same where it has an area. Where it has none the answer is want of memory, which never comes: the words of a
-/// whole unit have shown no fault.
-pub(crate) fn area_of(n: usize, unit: &[Word<'_>]) -> Result<Rect, AllocError>
-    requires { n ≤ 4 }
-    ensures { IfOk result (SaysArea n (map token unit.now)) }
-{
-    let rect = rect_of(n, unit)?;
-    if rect.x1 < rect.x2 && rect.y1 < rect.y2 {
-        Ok(rect)
-    } else {
-        Err(AllocError)
-    }
+    let one = point_of(n, unit);
+    let other = point_of(n + 4, unit);
+    between(one, other)
 }

@@ -1,24 +1,28 @@
 //! The text of a design as a format.
-ghost use Rattle.std.specs.Prelude.{List, map};
+ghost use Rattle.std.specs.Prelude.{◌≡◌, ◌∷◌, ◌++◌, [], List, map};
 ghost use Rattle.def_design.specs.Fault.{LastFault};
 ghost use Rattle.def_design.specs.Format.{format};
+ghost use Rattle.def_design.specs.Question.{question_of};
 ghost use Rattle.def_design.specs.inside.Held.{Holds, HoldsSaid};
+ghost use Rattle.def_design.specs.inside.Value.{SaysAsked, says};
 ghost use Rattle.def_statements.specs.Pattern.{pattern};
-ghost use Rattle.def_statements.specs.Sort.{all_sorts};
-ghost use Rattle.reading.specs.Fault.{Finds};
-ghost use Rattle.reading.specs.Grammar.{IsRegular};
-ghost use Rattle.reading.specs.Word.{Token, token};
+ghost use Rattle.def_statements.specs.Sort.{all_sorts, sort_of};
+ghost use Rattle.def_statements.specs.Standing.{section_of};
+ghost use Rattle.reading.specs.Fault.{FindsValue};
+ghost use Rattle.reading.specs.Grammar.{AreHeard, IsRegular};
+ghost use Rattle.reading.specs.Word.{Token, token, heard_token};
 
 use crate::error::DefKind;
 use crate::fault::{
-    again_fault, apart_fault, die_end_fault, missing_fault, number_fault, one_fault, taken_fault,
-    turn_fault, wire_fault,
+    again_value, apart_value, die_end_value, end_value, name_value, number_value, one_value,
+    turn_value, wire_value,
 };
-use crate::held::{Held, Said};
+use crate::held::{Held, Said, go_on};
 use crate::question::{Question, question_of};
-use def_statements::{Section, Sort, last_sort, last_text, rule, sort_of, text_at};
+use crate::value::{Value, first_sort, number_at};
+use def_statements::{Section, Sort, rule, sort_of};
 use number_place::texts_have_one_number;
-use reading::{Found, Grammar, Rule, Word, found_at};
+use reading::{Found, Grammar, Heard, Rule, Word};
 use std::alloc::AllocError;
 
 /// The format of the text of a design. It depends on whether wires of special nets are refused.
@@ -27,34 +31,39 @@ pub(crate) struct DesignFormat {
     pub(crate) wiring_refused: bool,
 }
 
-/// Why the last word of the unit is refused, of which this is asked.
-fn last_fault<'a>(
+/// The number of the word that comes next, of which this is asked, or why it is refused.
+fn answer<'a>(
     wiring: bool,
     said: &Said<'a>,
-    unit: &[Word<'a>],
+    before: &[Heard<'a, Value>],
+    word: &Word<'a>,
+    sort: Sort,
     question: Question,
-) -> Option<DefKind>
-    ensures { (units : List (List Token)) → HoldsSaid units said.now →
-        Finds (LastFault wiring units (map token unit.now) question) result }
+) -> Result<i64, DefKind>
+    ensures { (units : List (List Token)) → HoldsSaid units said.now → AreHeard (says units) [] before.now →
+        sort ≡ sort_of (token word.now) →
+        question ≡ question_of (section_of units) (map heard_token before.now ++ token word.now ∷ []) →
+        FindsValue (LastFault wiring units (map heard_token before.now ++ token word.now ∷ []) question)
+        (SaysAsked question word.now.text.now) result }
 {
     match question {
-        Question::Nothing => None,
-        Question::Number(quantity) => number_fault(quantity, last_text(unit)),
-        Question::Apart => apart_fault(
-            text_at(unit.len().saturating_sub(5), unit),
-            last_text(unit),
+        Question::Nothing => Ok(0),
+        Question::Number(quantity) => number_value(quantity, word.text),
+        Question::Apart => apart_value(
+            number_at(before.len().saturating_sub(4), before),
+            word.text,
         ),
-        Question::FirstDesign => again_fault(said.top.name.is_some()),
-        Question::FirstUnits => again_fault(said.top.units.is_some()),
-        Question::FirstDie => again_fault(said.top.die.is_some()),
-        Question::DieEnd => die_end_fault(unit, last_sort(unit)),
-        Question::RowTurn => turn_fault(last_sort(unit)),
-        Question::OneRow => one_fault(last_text(unit)),
-        Question::NewComponent => taken_fault(&said.components.names, last_text(unit)),
-        Question::NewRegion => taken_fault(&said.regions.names, last_text(unit)),
-        Question::NoPolygon => Some(DefKind::Polygon),
-        Question::NoWire => wire_fault(wiring),
-        Question::AllStands => missing_fault(
+        Question::FirstDesign => again_value(said.top.name.is_some()),
+        Question::FirstUnits => again_value(said.top.units.is_some()),
+        Question::FirstDie => again_value(said.top.die.is_some()),
+        Question::DieEnd => die_end_value(before, sort),
+        Question::RowTurn => turn_value(sort),
+        Question::OneRow => one_value(word.text),
+        Question::NewComponent => name_value(&said.components.names, word.text),
+        Question::NewRegion => name_value(&said.regions.names, word.text),
+        Question::NoPolygon => Err(DefKind::Polygon),
+        Question::NoWire => wire_value(wiring),
+        Question::AllStands => end_value(
             said.top.name.is_some(),
             said.top.units.is_some(),
             said.top.die.is_some(),
@@ -71,9 +80,13 @@ impl<'a> Grammar<'a> for DesignFormat {
 
     type Kind = DefKind;
 
+    type Value = Value;
+
     ghost format = { λ design. format design.wiring_refused };
 
     ghost pattern = { pattern };
+
+    ghost says = { λ design. says };
 
     ghost holds = { λ design held units. Holds units held };
 
@@ -89,24 +102,38 @@ impl<'a> Grammar<'a> for DesignFormat {
         rule(section)
     }
 
-    fn fault(&self, said: &Held<'a>, unit: &[Word<'a>]) -> Option<Found<DefKind>> {
-        let Some(at) = unit.len().checked_sub(1) else {
-            return None;
-        };
-        let question = question_of(said.standing.section(), unit);
-        found_at(
-            at,
-            last_fault(self.wiring_refused, &said.said, unit, question),
-        )
+    fn hear(
+        &self,
+        said: &Held<'a>,
+        before: &[Heard<'a, Value>],
+        word: &Word<'a>,
+        sort: Sort,
+    ) -> Result<Value, Found<DefKind>> {
+        let section = said.standing.section();
+        let question = question_of(section, first_sort(before, sort), before.len());
+        match answer(
+            self.wiring_refused,
+            &said.said,
+            before,
+            word,
+            sort,
+            question,
+        ) {
+            Ok(number) => Ok(Value { sort, number }),
+            Err(kind) => Err(Found {
+                at: before.len(),
+                kind,
+            }),
+        }
     }
 
     fn ends(&self, said: &Held<'a>) -> bool {
         matches!(said.standing.section(), Section::Ended)
     }
 
-    fn take(&self, said: &mut Held<'a>, unit: &[Word<'a>]) -> Result<(), AllocError> {
+    fn take(&self, said: &mut Held<'a>, unit: &[Heard<'a, Value>]) -> Result<(), AllocError> {
         said.said.take(said.alloc, unit)?;
-        said.standing.go_on(unit);
+        go_on(&mut said.standing, unit);
         Ok(())
     }
 

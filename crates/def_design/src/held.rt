@@ -1,10 +1,10 @@
 //! What has been read of a design.
 //!
-//! A unit that is whole has shown no fault, so its numbers can be read and its names are new. Where they are not, the
-//! answer is want of memory, which no clause ties to anything; it never comes.
-ghost use Rattle.std.specs.Prelude.{[], IfOk, OnOk, map};
-ghost use Rattle.def_design.specs.inside.Held.{Holds, HoldsSaid, Leads};
-ghost use Rattle.reading.specs.Word.{token};
+//! The words of a whole unit come with what they say, so that no number is read here, and its names are new.
+ghost use Rattle.std.specs.Prelude.{[], ◌≡◌, IfOk, OnOk, map};
+ghost use Rattle.def_design.specs.inside.Held.{Holds, HoldsSaid, Takes};
+ghost use Rattle.def_statements.specs.Standing.{standing_after};
+ghost use Rattle.reading.specs.Word.{heard_token};
 
 use crate::blockages::Blockages;
 use crate::components::Components;
@@ -12,8 +12,9 @@ use crate::record::Row;
 use crate::regions::Regions;
 use crate::rows::take_row;
 use crate::top::Top;
+use crate::value::Value;
 use def_statements::Standing;
-use reading::Word;
+use reading::{Heard, last_heard};
 use std::alloc::{AllocError, Global};
 
 /// What the units so far say.
@@ -48,14 +49,19 @@ impl<'a> Said<'a> {
     }
 
     /// What a whole unit says.
-    pub(crate) fn take(&mut self, alloc: Global, unit: &[Word<'a>]) -> Result<(), AllocError>
-        ensures { OnOk result (Leads HoldsSaid (map token unit.now) self.old self.new) }
+    pub(crate) fn take(
+        &mut self,
+        alloc: Global,
+        unit: &[Heard<'a, Value>],
+    ) -> Result<(), AllocError>
+        ensures { OnOk result (Takes HoldsSaid unit.now self.old self.new) }
     {
         self.top.take(alloc, unit)?;
         take_row(&mut self.rows, alloc, unit)?;
         self.components.take(alloc, unit)?;
         self.blockages.take(alloc, unit)?;
-        self.regions.take(alloc, unit)
+        self.regions.take(alloc, unit)?;
+        Ok(())
     }
 }
 
@@ -68,5 +74,18 @@ impl<'a> Held<'a> {
             standing: Standing::new(),
             alloc,
         })
+    }
+}
+
+/// Goes on to where one more unit leads, which its first and its last word tell.
+pub(crate) fn go_on<'a>(standing: &mut Standing<'a>, unit: &[Heard<'a, Value>])
+    ensures { standing.new ≡ standing_after standing.old (map heard_token unit.now) }
+{
+    match unit.first() {
+        None => standing.go_on(&[]),
+        Some(first) => match last_heard(unit) {
+            None => standing.go_on(&[]),
+            Some(last) => standing.go_on(&[first.word, last.word]),
+        },
     }
 }

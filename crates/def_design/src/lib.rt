@@ -21,6 +21,7 @@ mod record;
 mod regions;
 mod rows;
 mod top;
+mod value;
 
 pub use error::{DefError, DefKind, Item};
 pub use laws::{texts_have_one_design, texts_have_one_placed_design};

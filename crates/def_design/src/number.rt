@@ -1,11 +1,12 @@
 //! The numbers of a design: whole numbers of its units, and counts.
-ghost use Rattle.std.specs.Prelude.{◌≡◌, ◌<◌, ◌↔◌, ℤ, Ok, Result, IfOk, IsTrue, pos};
-ghost use Rattle.def_design.specs.Number.{place_of, IsSame};
+ghost use Rattle.std.specs.Prelude.{◌≡◌, ℕ, ℤ, List, Ok, Result, pos};
+ghost use Rattle.def_design.specs.Number.{place_of};
 ghost use Rattle.number_place.specs.declared.place.Refused.{Refused as Reason};
 ghost use Rattle.number_place.specs.Place.{IsNumberAt};
 
-use number_place::{NumberForm, NumberPlace, NumberSign, Refused, small_number_at};
-use std::alloc::AllocError;
+use number_place::{
+    NumberForm, NumberPlace, NumberSign, Refused, small_number_at, values_fit_their_places,
+};
 
 /// No number of a design is farther from 0.
 pub const NUMBER_LIMIT: u128 = 1_073_741_824;
@@ -57,44 +58,13 @@ pub(crate) fn read_number(quantity: Quantity, text: &[u8]) -> Result<i64, Refuse
     small_number_at(place_of(quantity), text)
 }
 
-/// A number of this kind. Where it cannot be read the answer is want of memory, which no clause ties to anything; it
-/// never comes, since the words of a whole unit have shown no fault.
-pub(crate) fn number_of(quantity: Quantity, text: &[u8]) -> Result<i64, AllocError>
-    ensures { IfOk result (λ value. IsNumberAt (place_of quantity) text.now (Ok value)) }
+/// How many units a micrometre has, by a number that fits its limits.
+pub(crate) fn microns_of(number: i64) -> u32
+    ensures { (text : List ℕ) → IsNumberAt (place_of Quantity.Microns) text (Ok number) → pos result ≡ number }
 {
-    match read_number(quantity, text) {
-        Ok(value) => Ok(value),
-        Err(_) => Err(AllocError),
+    values_fit_their_places();
+    match u32::try_from(number) {
+        Ok(microns) => microns,
+        Err(_) => 0,
     }
-}
-
-/// How many units a micrometre has.
-pub(crate) fn microns_of(text: &[u8]) -> Result<u32, AllocError>
-    ensures { IfOk result (λ value. IsNumberAt (place_of Quantity.Microns) text.now (Ok (pos value))) }
-{
-    let value = number_of(Quantity::Microns, text)?;
-    match u32::try_from(value) {
-        Ok(microns) => Ok(microns),
-        Err(_) => Err(AllocError),
-    }
-}
-
-/// Whether the two texts are one number.
-pub(crate) fn is_same(one: &[u8], other: &[u8]) -> bool
-    ensures { IsTrue result ↔ IsSame one.now other.now }
-{
-    match (
-        read_number(Quantity::Any, one),
-        read_number(Quantity::Any, other),
-    ) {
-        (Ok(a), Ok(b)) => a == b,
-        _ => false,
-    }
-}
-
-/// Whether a count has grown.
-pub(crate) fn has_grown(before: usize, after: usize) -> bool
-    ensures { IsTrue result ↔ (before < after) }
-{
-    before < after
 }

@@ -1,11 +1,10 @@
 //! What is asked of each word of a unit.
-ghost use Rattle.std.specs.Prelude.{◌≡◌, map};
-ghost use Rattle.def_design.specs.Question.{top_asks, placed_asks, part_asks, shape_asks, placement_asks, regions_asks, region_asks, entry_asks, wiring_asks, end_asks, asks_of, question_at, question_of};
-ghost use Rattle.reading.specs.Word.{token};
+ghost use Rattle.std.specs.Prelude.{◌≡◌};
+ghost use Rattle.def_design.specs.Question.{top_asks, placed_asks, part_asks, shape_asks, placement_asks, regions_asks, region_asks, entry_asks, wiring_asks, end_asks, question_at};
+ghost use Rattle.def_design.specs.inside.Value.{asks_by};
 
 use crate::number::Quantity;
-use def_statements::{Section, Sort, sort_at};
-use reading::Word;
+use def_statements::{Section, Sort};
 
 /// What is asked of a word.
 #[derive(Clone, Copy, Debug)]
@@ -240,22 +239,22 @@ fn end_asks(first: Sort) -> &'static [Question]
     }
 }
 
-/// What is asked of the words of a unit of this section, by its first word. Of further words nothing is.
-fn asks_of(section: Section, unit: &[Word<'_>]) -> &'static [Question]
-    ensures { result.now ≡ asks_of section (map token unit.now) }
+/// What is asked of the words of a unit of this section that begins with a word of this sort. Of further words nothing is.
+fn asks_of(section: Section, first: Sort) -> &'static [Question]
+    ensures { result.now ≡ asks_by section first }
 {
     match section {
-        Section::Top => top_asks(sort_at(0, unit)),
-        Section::Components => entry_asks(sort_at(0, unit)),
-        Section::EntryPart => placed_asks(sort_at(0, unit)),
-        Section::Part => part_asks(sort_at(0, unit)),
-        Section::Parts => shape_asks(sort_at(0, unit)),
-        Section::Rects => shape_asks(sort_at(0, unit)),
-        Section::Placement => placement_asks(sort_at(0, unit)),
-        Section::Regions => regions_asks(sort_at(0, unit)),
-        Section::Region => region_asks(sort_at(0, unit)),
-        Section::WiringPart => wiring_asks(sort_at(0, unit)),
-        Section::Ended => end_asks(sort_at(0, unit)),
+        Section::Top => top_asks(first),
+        Section::Components => entry_asks(first),
+        Section::EntryPart => placed_asks(first),
+        Section::Part => part_asks(first),
+        Section::Parts => shape_asks(first),
+        Section::Rects => shape_asks(first),
+        Section::Placement => placement_asks(first),
+        Section::Regions => regions_asks(first),
+        Section::Region => region_asks(first),
+        Section::WiringPart => wiring_asks(first),
+        Section::Ended => end_asks(first),
         _ => &[],
     }
 }
@@ -270,9 +269,9 @@ fn question_at(asks: &[Question], n: usize) -> Question
     }
 }
 
-/// What is asked of the last of these words of a unit of this section.
-pub(crate) fn question_of(section: Section, unit: &[Word<'_>]) -> Question
-    ensures { result ≡ question_of section (map token unit.now) }
+/// What is asked of the word that has n words before it in a unit of this section that begins with a word of this sort.
+pub(crate) fn question_of(section: Section, first: Sort, n: usize) -> Question
+    ensures { result ≡ question_at (asks_by section first) n }
 {
-    question_at(asks_of(section, unit), unit.len().saturating_sub(1))
+    question_at(asks_of(section, first), n)
 }

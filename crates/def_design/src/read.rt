@@ -71,8 +71,8 @@ fn design_of(said: Said<'_>) -> Result<Design, DefError>
         blockages,
         regions,
     } = said;
-    let _components = components.names.len();
-    let _regions = regions.names.len();
+    let _components = components.names.into_entries();
+    let _regions = regions.names.into_entries();
     let (Some(name), Some(units), Some(die)) = (top.name, top.units, top.die) else {
         return Err(ReadError::want());
     };

@@ -1,24 +1,24 @@
 //! The regions of a design.
 ghost use Rattle.std.specs.Prelude.{◌≡◌, ◌++◌, ◌∷◌, [], true, false, IfOk, OnOk, map};
-ghost use Rattle.def_design.specs.inside.Held.{HoldsRegions, Leads};
+ghost use Rattle.def_design.specs.inside.Held.{HoldsRegions, Takes};
 ghost use Rattle.def_design.specs.Unit.{is_region, is_more};
-ghost use Rattle.reading.specs.Word.{token};
+ghost use Rattle.reading.specs.Word.{heard_token};
 
-use crate::corners::area_of;
-use crate::number::has_grown;
+use crate::corners::rect_of;
 use crate::record::Fence;
-use def_statements::{Sort, begins, text_at};
+use crate::value::{Value, begins, text_at};
+use def_statements::Sort;
 use entry_list::Entries;
 use geom_rect::Rect;
-use name_table::NameTable;
+use named_entries::NamedEntries;
 use outside::Name;
-use reading::Word;
+use reading::Heard;
 use std::alloc::{AllocError, Global};
 
 /// The regions so far, and their names.
 #[derive(Drop)]
 pub(crate) struct Regions<'a> {
-    pub(crate) names: NameTable<'a>,
+    pub(crate) names: NamedEntries<'a, ()>,
     pub(crate) items: Vec<Fence>,
 }
 
@@ -40,28 +40,20 @@ impl<'a> Regions<'a> {
         ensures { IfOk result (HoldsRegions []) }
     {
         Ok(Regions {
-            names: NameTable::with_capacity(alloc, 0)?,
+            names: NamedEntries::new(alloc)?,
             items: Vec::new(alloc),
         })
     }
 
-    /// One more region, with its first rectangle. A name that stands already never comes here.
-    fn add(&mut self, alloc: Global, unit: &[Word<'a>]) -> Result<(), AllocError>
-        requires { is_region (map token unit.now) ≡ true }
-        ensures { OnOk result (Leads HoldsRegions (map token unit.now) self.old self.new) }
+    /// One more region, with its first rectangle.
+    fn add(&mut self, alloc: Global, unit: &[Heard<'a, Value>]) -> Result<(), AllocError>
+        ensures { OnOk result (is_region (map heard_token unit.now) ≡ true →
+            Takes HoldsRegions unit.now self.old self.new) }
     {
         let name = text_at(1, unit);
-        let before = self.names.len();
-        match self.names.number(name) {
-            Ok(_) => {}
-            Err(_) => return Err(AllocError),
-        }
-        let after = self.names.len();
-        if !has_grown(before, after) {
-            return Err(AllocError);
-        }
+        self.names.add(name, ())?;
         let mut rects = Vec::new(alloc);
-        rects.push(area_of(3, unit)?)?;
+        rects.push(rect_of(3, unit))?;
         self.items.push(Fence {
             name: Name::new(alloc, name)?,
             rects: Entries::new(rects),
@@ -70,22 +62,26 @@ impl<'a> Regions<'a> {
     }
 
     /// One more rectangle of the last region.
-    fn extend(&mut self, unit: &[Word<'a>]) -> Result<(), AllocError>
-        requires other { is_region (map token unit.now) ≡ false }
-        requires more { is_more (map token unit.now) ≡ true }
-        ensures { OnOk result (Leads HoldsRegions (map token unit.now) self.old self.new) }
+    fn extend(&mut self, unit: &[Heard<'a, Value>]) -> Result<(), AllocError>
+        ensures { OnOk result (is_region (map heard_token unit.now) ≡ false →
+            is_more (map heard_token unit.now) ≡ true → Takes HoldsRegions unit.now self.old self.new) }
     {
-        let Some(last) = self.items.pop() else {
-            return Err(AllocError);
-        };
-        let rect = area_of(1, unit)?;
-        self.items.push(with_rect(last, rect)?)?;
-        Ok(())
+        match self.items.pop() {
+            Some(last) => {
+                self.items.push(with_rect(last, rect_of(1, unit))?)?;
+                Ok(())
+            }
+            None => Ok(()),
+        }
     }
 
     /// What a whole unit says of the regions.
-    pub(crate) fn take(&mut self, alloc: Global, unit: &[Word<'a>]) -> Result<(), AllocError>
-        ensures { OnOk result (Leads HoldsRegions (map token unit.now) self.old self.new) }
+    pub(crate) fn take(
+        &mut self,
+        alloc: Global,
+        unit: &[Heard<'a, Value>],
+    ) -> Result<(), AllocError>
+        ensures { OnOk result (Takes HoldsRegions unit.now self.old self.new) }
     {
         if begins(Sort::Minus, 10, unit) {
             return self.add(alloc, unit);

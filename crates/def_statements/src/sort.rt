@@ -1,5 +1,5 @@
 ghost use Rattle.std.specs.Prelude.{◌≡◌};
-ghost use Rattle.def_statements.specs.Sort.{number_of, all_sorts, sort_of_part, sort_of_statement, sort_of_text, sort_of, listed, few, the};
+ghost use Rattle.def_statements.specs.Sort.{number_of, all_sorts, sort_of_shape, sort_of_part, sort_of_passed, sort_of_section, sort_of_row, sort_of_statement, sort_of_turn, sort_of_text, sort_of, listed, few, the};
 ghost use Rattle.reading.specs.Word.{token};
 
 use reading::{Form, Numbered, Word, keyword_or};
@@ -125,26 +125,59 @@ fn sort_of_text(text: &[u8]) -> Sort
     ensures { result ≡ sort_of_text text.now }
 {
     keyword_or!(text;
-        b";" => Sort::Semicolon, b"(" => Sort::Open, b")" => Sort::Close, b"+" => Sort::Plus, b"-" => Sort::Minus,
+        b";" => Sort::Semicolon, b"(" => Sort::Open, b")" => Sort::Close, b"+" => Sort::Plus, b"-" => Sort::Minus;
+        sort_of_turn(text))
+}
+
+/// The sort of a bare word that is no mark.
+fn sort_of_turn(text: &[u8]) -> Sort
+    ensures { result ≡ sort_of_turn text.now }
+{
+    keyword_or!(text;
         b"N" => Sort::N, b"FS" => Sort::FS, b"S" => Sort::S, b"FN" => Sort::FN, b"W" => Sort::W, b"E" => Sort::E,
         b"FW" => Sort::FW, b"FE" => Sort::FE;
         sort_of_statement(text))
 }
 
-/// The sort of a bare word that is no mark.
+/// The sort of a bare word that is no mark and no orientation.
 fn sort_of_statement(text: &[u8]) -> Sort
     ensures { result ≡ sort_of_statement text.now }
 {
     keyword_or!(text;
         b"PLACED" => Sort::Placed, b"FIXED" => Sort::Fixed, b"COVER" => Sort::Fixed, b"END" => Sort::End,
-        b"DESIGN" => Sort::Design, b"UNITS" => Sort::Units, b"DISTANCE" => Sort::Distance, b"MICRONS" => Sort::Microns,
-        b"DIEAREA" => Sort::DieArea, b"ROW" => Sort::Row, b"DO" => Sort::Do, b"BY" => Sort::By, b"STEP" => Sort::Step,
+        b"DESIGN" => Sort::Design, b"UNITS" => Sort::Units, b"DISTANCE" => Sort::Distance, b"MICRONS" => Sort::Microns;
+        sort_of_row(text))
+}
+
+/// The sort of another bare word.
+fn sort_of_row(text: &[u8]) -> Sort
+    ensures { result ≡ sort_of_row text.now }
+{
+    keyword_or!(text;
+        b"DIEAREA" => Sort::DieArea, b"ROW" => Sort::Row, b"DO" => Sort::Do, b"BY" => Sort::By, b"STEP" => Sort::Step;
+        sort_of_section(text))
+}
+
+/// The sort of another bare word.
+fn sort_of_section(text: &[u8]) -> Sort
+    ensures { result ≡ sort_of_section text.now }
+{
+    keyword_or!(text;
         b"COMPONENTS" => Sort::Components, b"BLOCKAGES" => Sort::Blockages, b"REGIONS" => Sort::Regions,
-        b"SPECIALNETS" => Sort::SpecialNets, b"VIAS" => Sort::PassedSection,
-        b"PROPERTYDEFINITIONS" => Sort::PassedSection, b"NONDEFAULTRULES" => Sort::PassedSection,
-        b"STYLES" => Sort::PassedSection, b"PINS" => Sort::PassedSection, b"PINPROPERTIES" => Sort::PassedSection,
-        b"NETS" => Sort::PassedSection, b"SCANCHAINS" => Sort::PassedSection, b"GROUPS" => Sort::PassedSection,
-        b"FILLS" => Sort::Fills, b"SLOTS" => Sort::Fills, b"BEGINEXT" => Sort::BeginExt;
+        b"SPECIALNETS" => Sort::SpecialNets, b"FILLS" => Sort::Fills, b"SLOTS" => Sort::Fills,
+        b"BEGINEXT" => Sort::BeginExt;
+        sort_of_passed(text))
+}
+
+/// The sort of another bare word.
+fn sort_of_passed(text: &[u8]) -> Sort
+    ensures { result ≡ sort_of_passed text.now }
+{
+    keyword_or!(text;
+        b"VIAS" => Sort::PassedSection, b"PROPERTYDEFINITIONS" => Sort::PassedSection,
+        b"NONDEFAULTRULES" => Sort::PassedSection, b"STYLES" => Sort::PassedSection, b"PINS" => Sort::PassedSection,
+        b"PINPROPERTIES" => Sort::PassedSection, b"NETS" => Sort::PassedSection,
+        b"SCANCHAINS" => Sort::PassedSection, b"GROUPS" => Sort::PassedSection;
         sort_of_part(text))
 }
 
@@ -155,8 +188,16 @@ fn sort_of_part(text: &[u8]) -> Sort
     keyword_or!(text;
         b"LAYER" => Sort::Layer, b"PLACEMENT" => Sort::Placement, b"SPACING" => Sort::Spacing,
         b"PUSHDOWN" => Sort::PushDown, b"COMPONENT" => Sort::Component, b"DESIGNRULEWIDTH" => Sort::Width,
-        b"MASK" => Sort::Width, b"EXCEPTPGNET" => Sort::ExceptPgNet, b"RECT" => Sort::Rect, b"POLYGON" => Sort::Polygon,
-        b"ROUTED" => Sort::Routed, b"SHIELD" => Sort::Routed;
+        b"MASK" => Sort::Width, b"EXCEPTPGNET" => Sort::ExceptPgNet;
+        sort_of_shape(text))
+}
+
+/// The sort of another bare word.
+fn sort_of_shape(text: &[u8]) -> Sort
+    ensures { result ≡ sort_of_shape text.now }
+{
+    keyword_or!(text;
+        b"RECT" => Sort::Rect, b"POLYGON" => Sort::Polygon, b"ROUTED" => Sort::Routed, b"SHIELD" => Sort::Routed;
         Sort::Other)
 }
 

@@ -103,13 +103,13 @@ section_by acts.EndsNet = Nets
 section_by acts.Breaks = Nets
 section_by _ = Net
 
-abbrev pub after_net : Act → Token → Standing → Standing
-after_net act word standing = record standing {
+abbrev pub after_net : Act → Sort → Token → Standing → Standing
+after_net act sort word standing = record standing {
   section = section_by act;
-  power = power_after standing.power (told standing.cue (sort_of word));
-  cue = cue_after standing.cue (sort_of word);
+  power = power_after standing.power (told standing.cue sort);
+  cue = cue_after standing.cue sort;
   stage = stage_by act standing.path.last standing.stage;
-  path = path_by act (sort_of word) word.text standing.path;
+  path = path_by act sort word.text standing.path;
 }
 
 -- ## where units lead
@@ -125,12 +125,13 @@ abbrev pub after_passed : Option Passing → Token → Option Passing
 after_passed None word = None
 after_passed (Some passing) word = passing_after passing word
 
-abbrev pub after_one : Section → Token → Standing → Standing
-after_one Top word standing = record standing { passing = passed_by (sort_of word) word }
-after_one Via word standing = after_via (act_in Via standing (sort_of word)) word standing
-after_one Net word standing = after_net (act_in Net standing (sort_of word)) word standing
-after_one Passed word standing = record standing { passing = after_passed standing.passing word }
-after_one section word standing = standing
+-- After a unit of one word, which is of this sort.
+abbrev pub after_one : Section → Sort → Token → Standing → Standing
+after_one Top sort word standing = record standing { passing = passed_by sort word }
+after_one Via sort word standing = after_via (act_in Via standing sort) word standing
+after_one Net sort word standing = after_net (act_in Net standing sort) sort word standing
+after_one Passed sort word standing = record standing { passing = after_passed standing.passing word }
+after_one section sort word standing = standing
 
 abbrev pub after_two : Section → Sort → Token → Standing → Standing
 after_two Top first second standing = record standing { section = Ended }
@@ -139,7 +140,7 @@ after_two Nets first second standing = after_entries Net first second standing
 after_two section first second standing = standing
 
 abbrev pub after_words : Section → List Token → Standing → Standing
-after_words section (word ∷ []) standing = after_one section word standing
+after_words section (word ∷ []) standing = after_one section (sort_of word) word standing
 after_words section (first ∷ second ∷ []) standing = after_two section (sort_of first) second standing
 after_words section (first ∷ second ∷ third ∷ []) standing = record standing { section = headed (sort_of first) }
 after_words section unit standing = standing

@@ -3,7 +3,7 @@ ghost use Rattle.std.specs.Prelude.{◌≡◌, ℕ, List, Some, None};
 ghost use Rattle.def_wiring.specs.Fault.{CoordinateFault, SlantFault, UnknownFault, WordFault, shown_as, AtWord, LateFault, ViaEndFault, ViaPartFault, ViaFault, NetFault, FirstFault, TwiceFault, CountFault, SecondFault};
 ghost use Rattle.def_wiring.specs.Record.{Asked, Said};
 ghost use Rattle.def_wiring.specs.Sort.{sort_of};
-ghost use Rattle.def_wiring.specs.inside.Fault.{here};
+ghost use Rattle.def_wiring.specs.inside.Fault.{here, sort_or};
 ghost use Rattle.def_wiring.specs.inside.Held.{IsLate, Tells};
 ghost use Rattle.reading.specs.Fault.{Finds};
 ghost use Rattle.reading.specs.Word.{Token, token};
@@ -16,7 +16,7 @@ use crate::number::{Quantity, is_other, number_fault};
 use crate::path::{Path, Point};
 use crate::record::ViaDef;
 use crate::section::Section;
-use crate::sort::{Sort, sort_of};
+use crate::sort::Sort;
 use crate::standing::{Standing, told};
 use crate::via::has_numbers;
 use name_table::NameTable;
@@ -93,9 +93,10 @@ pub(crate) fn word_fault<'a>(
     vias: &NamedEntries<'a, ViaDef>,
     act: Act,
     path: &Path<'a>,
+    sort: Sort,
     word: &Word<'a>,
 ) -> Option<WiresKind>
-    ensures { Finds (WordFault vias.now.names act path.now (token word.now)) result }
+    ensures { sort ≡ sort_of (token word.now) → Finds (WordFault vias.now.names act path.now (token word.now)) result }
 {
     match act {
         Act::Misplaced | Act::Breaks => Some(WiresKind::Syntax),
@@ -104,8 +105,8 @@ pub(crate) fn word_fault<'a>(
         Act::Number => number_fault(Quantity::Any, word.text),
         Act::Width => number_fault(Quantity::NotNegative, word.text),
         Act::Reach => number_fault(Quantity::NotNegative, word.text),
-        Act::X => coordinate_fault(&path.last, sort_of(word), word.text),
-        Act::Y => second_fault_of(path, sort_of(word), word.text),
+        Act::X => coordinate_fault(&path.last, sort, word.text),
+        Act::Y => second_fault_of(path, sort, word.text),
         Act::Place => unknown_fault(vias, word.text),
         _ => None,
     }
@@ -195,15 +196,19 @@ fn use_fault(told: Option<bool>, late: Option<Late>) -> Option<Shown>
 }
 
 /// What a word of an entry of SPECIALNETS shows.
-fn net_fault<'a>(said: &Sections<'a>, standing: &Standing<'a>, word: &Word<'a>) -> Option<Shown>
-    ensures { (before : Said) → Tells before said.now →
+fn net_fault<'a>(
+    said: &Sections<'a>,
+    standing: &Standing<'a>,
+    sort: Sort,
+    word: &Word<'a>,
+) -> Option<Shown>
+    ensures { (before : Said) → Tells before said.now → sort ≡ sort_of (token word.now) →
         Finds (FirstFault Section.Net standing.now before (token word.now)) result }
 {
-    let sort = sort_of(word);
     match standing.power {
         Some(_) => {
             let act = standing.act(Section::Net, sort);
-            here(word_fault(&said.vias, act, &standing.path, word))
+            here(word_fault(&said.vias, act, &standing.path, sort, word))
         }
         None => use_fault(told(standing.cue, sort), said.late),
     }
@@ -214,17 +219,18 @@ pub(crate) fn first_fault<'a>(
     section: Section,
     said: &Sections<'a>,
     standing: &Standing<'a>,
+    sort: Sort,
     word: &Word<'a>,
 ) -> Option<Shown>
-    ensures { (before : Said) → Tells before said.now →
+    ensures { (before : Said) → Tells before said.now → sort ≡ sort_of (token word.now) →
         Finds (FirstFault section standing.now before (token word.now)) result }
 {
     match section {
         Section::Via => {
-            let act = standing.act(Section::Via, sort_of(word));
+            let act = standing.act(Section::Via, sort);
             via_fault(act, said.late, &standing.entry)
         }
-        Section::Net => net_fault(said, standing, word),
+        Section::Net => net_fault(said, standing, sort, word),
         _ => None,
     }
 }
@@ -290,4 +296,14 @@ pub(crate) fn second_fault<'a>(
         Finds (AtWord (SecondFault section before first (token second.now))) result }
 {
     here(second_kind(section, said, first, second))
+}
+
+/// The sort of a word that shows nothing, or what it shows.
+pub(crate) fn sort_or(shown: Option<Shown>, sort: Sort) -> Result<Sort, Shown>
+    ensures { result ≡ sort_or shown sort }
+{
+    match shown {
+        Some(shown) => Err(shown),
+        None => Ok(sort),
+    }
 }

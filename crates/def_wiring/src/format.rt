@@ -4,16 +4,17 @@ ghost use Rattle.def_wiring.specs.Format.{format};
 ghost use Rattle.def_wiring.specs.Rule.{pattern};
 ghost use Rattle.def_wiring.specs.Sort.{all_sorts};
 ghost use Rattle.def_wiring.specs.inside.Held.{Holds};
+ghost use Rattle.def_wiring.specs.inside.Value.{says};
 ghost use Rattle.reading.specs.Grammar.{IsRegular};
 
 use crate::error::Shown;
-use crate::fault::{first_fault, second_fault};
+use crate::fault::{first_fault, second_fault, sort_or};
 use crate::held::Held;
 use crate::rule::rule;
 use crate::section::Section;
 use crate::sort::{Sort, sort_of};
 use number_place::texts_have_one_number;
-use reading::{Found, Grammar, Rule, Word, found_at};
+use reading::{Found, Grammar, Heard, Rule, Word, told_at};
 use std::alloc::AllocError;
 
 /// The format of the text of wiring, which depends on nothing but the text.
@@ -28,20 +29,38 @@ impl<'a> Grammar<'a> for WiresFormat {
 
     type Kind = Shown;
 
+    /// The sort of a word.
+    type Value = Sort;
+
     ghost format = { λ wires. format };
 
     ghost pattern = { pattern };
 
+    ghost says = { λ wires units. says };
+
     ghost holds = { λ wires held units. Holds units held };
 
-    fn fault(&self, said: &Held<'a>, unit: &[Word<'a>]) -> Option<Found<Shown>> {
+    fn hear(
+        &self,
+        said: &Held<'a>,
+        before: &[Heard<'a, Sort>],
+        word: &Word<'a>,
+        sort: Sort,
+    ) -> Result<Sort, Found<Shown>> {
         let section = said.standing.section();
-        match unit {
-            [first] => found_at(0, first_fault(section, &said.said, &said.standing, first)),
-            [first, second] => {
-                found_at(1, second_fault(section, &said.said, sort_of(first), second))
-            }
-            _ => None,
+        match before {
+            [] => told_at(
+                0,
+                sort_or(
+                    first_fault(section, &said.said, &said.standing, sort, word),
+                    sort,
+                ),
+            ),
+            [first] => told_at(
+                1,
+                sort_or(second_fault(section, &said.said, first.value, word), sort),
+            ),
+            _ => Ok(sort),
         }
     }
 
@@ -61,7 +80,7 @@ impl<'a> Grammar<'a> for WiresFormat {
         said.standing.section().is_ended()
     }
 
-    fn take(&self, said: &mut Held<'a>, unit: &[Word<'a>]) -> Result<(), AllocError> {
+    fn take(&self, said: &mut Held<'a>, unit: &[Heard<'a, Sort>]) -> Result<(), AllocError> {
         said.take(unit)
     }
 

@@ -10,7 +10,9 @@ ghost use Rattle.def_wiring.specs.Sort.{sort_of};
 ghost use Rattle.def_wiring.specs.Standing.{act_in};
 ghost use Rattle.def_wiring.specs.declared.standing.Standing.{Standing as There};
 ghost use Rattle.def_wiring.specs.inside.Held.{Tells, Holds, Leads, Notes, Unites};
-ghost use Rattle.reading.specs.Word.{Token, token};
+ghost use Rattle.def_wiring.specs.inside.Value.{says};
+ghost use Rattle.reading.specs.Grammar.{AreHeard};
+ghost use Rattle.reading.specs.Word.{Token, token, heard_token};
 
 use crate::act::Act;
 use crate::error::{Late, WiresKind};
@@ -19,7 +21,7 @@ use crate::label::Label;
 use crate::path::Path;
 use crate::record::{Segment, ViaDef, ViaPlace, WiredNet};
 use crate::section::Section;
-use crate::sort::{Sort, sort_of};
+use crate::sort::Sort;
 use crate::standing::Standing;
 use crate::via::via_of;
 use crate::wire::{segment_of, via_place};
@@ -27,7 +29,7 @@ use entry_list::Entries;
 use name_table::NameTable;
 use named_entries::NamedEntries;
 use outside::Name;
-use reading::Word;
+use reading::{Heard, Word};
 use std::alloc::{AllocError, Global};
 use std::mem;
 
@@ -124,11 +126,11 @@ impl<'a> Sections<'a> {
     }
 
     /// A word of an entry of which it is not known whether it counts, where no word before it shows a fault.
-    fn note_word(&mut self, act: Act, path: &Path<'a>, word: &Word<'a>)
+    fn note_word(&mut self, act: Act, path: &Path<'a>, sort: Sort, word: &Word<'a>)
         requires { self.now.late ≡ None }
-        ensures { Notes None (record { act = act; path = path.now; word = token word.now }) self.old self.new }
+        ensures { sort ≡ sort_of (token word.now) → Notes None (record { act = act; path = path.now; word = token word.now }) self.old self.new }
     {
-        if let Some(kind) = word_fault(&self.vias, act, path, word) {
+        if let Some(kind) = word_fault(&self.vias, act, path, sort, word) {
             self.late = Some(Late {
                 place: word.place,
                 kind,
@@ -137,22 +139,22 @@ impl<'a> Sections<'a> {
     }
 
     /// A word of an entry of which it is not known whether it counts.
-    fn note_unknown(&mut self, act: Act, path: &Path<'a>, word: &Word<'a>)
-        ensures { Notes None (record { act = act; path = path.now; word = token word.now }) self.old self.new }
+    fn note_unknown(&mut self, act: Act, path: &Path<'a>, sort: Sort, word: &Word<'a>)
+        ensures { sort ≡ sort_of (token word.now) → Notes None (record { act = act; path = path.now; word = token word.now }) self.old self.new }
     {
         match self.late {
             Some(_) => {}
-            None => self.note_word(act, path, word),
+            None => self.note_word(act, path, sort, word),
         }
     }
 
     /// A word of an entry.
-    fn note(&mut self, power: Option<bool>, act: Act, path: &Path<'a>, word: &Word<'a>)
-        ensures { Notes power (record { act = act; path = path.now; word = token word.now }) self.old self.new }
+    fn note(&mut self, power: Option<bool>, act: Act, path: &Path<'a>, sort: Sort, word: &Word<'a>)
+        ensures { sort ≡ sort_of (token word.now) → Notes power (record { act = act; path = path.now; word = token word.now }) self.old self.new }
     {
         match power {
             Some(_) => {}
-            None => self.note_unknown(act, path, word),
+            None => self.note_unknown(act, path, sort, word),
         }
     }
 
@@ -274,13 +276,14 @@ impl<'a> Sections<'a> {
         alloc: Global,
         section: Section,
         standing: &Standing<'a>,
+        sort: Sort,
         word: &Word<'a>,
     ) -> Result<(), AllocError>
-        ensures { OnOk result ((said : Said) → Tells said self.old →
-            Tells (said_word (act_in section standing.now (sort_of (token word.now))) standing.now (token word.now) said) self.new) }
+        ensures { OnOk result (sort ≡ sort_of (token word.now) → (said : Said) → Tells said self.old →
+            Tells (said_word (act_in section standing.now sort) standing.now (token word.now) said) self.new) }
     {
-        let act = standing.act(section, sort_of(word));
-        self.note(standing.power, act, &standing.path, word);
+        let act = standing.act(section, sort);
+        self.note(standing.power, act, &standing.path, sort, word);
         self.take_act(alloc, act, standing, word)
     }
 
@@ -290,14 +293,15 @@ impl<'a> Sections<'a> {
         alloc: Global,
         section: Section,
         standing: &Standing<'a>,
+        sort: Sort,
         word: &Word<'a>,
     ) -> Result<(), AllocError>
-        ensures { OnOk result ((said : Said) → Tells said self.old →
+        ensures { OnOk result (sort ≡ sort_of (token word.now) → (said : Said) → Tells said self.old →
             Tells (said_unit section standing.now (token word.now ∷ []) said) self.new) }
     {
         match section {
-            Section::Via => self.take_word(alloc, Section::Via, standing, word),
-            Section::Net => self.take_word(alloc, Section::Net, standing, word),
+            Section::Via => self.take_word(alloc, Section::Via, standing, sort, word),
+            Section::Net => self.take_word(alloc, Section::Net, standing, sort, word),
             _ => Ok(()),
         }
     }
@@ -344,14 +348,15 @@ impl<'a> Sections<'a> {
         &mut self,
         alloc: Global,
         standing: &Standing<'a>,
-        unit: &[Word<'a>],
+        unit: &[Heard<'a, Sort>],
     ) -> Result<(), AllocError>
-        ensures { OnOk result (Unites standing.now (map token unit.now) self.old self.new) }
+        ensures { OnOk result (AreHeard says [] unit.now →
+            Unites standing.now (map heard_token unit.now) self.old self.new) }
     {
         let section = standing.section();
         match unit {
-            [word] => self.take_one(alloc, section, standing, word),
-            [first, second] => self.take_two(section, sort_of(first), second),
+            [first] => self.take_one(alloc, section, standing, first.value, &first.word),
+            [first, second] => self.take_two(section, first.value, &second.word),
             _ => Ok(()),
         }
     }
@@ -390,9 +395,9 @@ impl<'a> Held<'a> {
     }
 
     /// Takes what a whole unit says, and goes on to where it leads.
-    pub(crate) fn take(&mut self, unit: &[Word<'a>]) -> Result<(), AllocError>
-        ensures { OnOk result ((units : List (List Token)) → Holds units self.old →
-            Holds (units ++ map token unit.now ∷ []) self.new) }
+    pub(crate) fn take(&mut self, unit: &[Heard<'a, Sort>]) -> Result<(), AllocError>
+        ensures { OnOk result (AreHeard says [] unit.now → (units : List (List Token)) → Holds units self.old →
+            Holds (units ++ map heard_token unit.now ∷ []) self.new) }
     {
         self.said.take(self.alloc, &self.standing, unit)?;
         self.standing.go_on(unit)

@@ -1,17 +1,18 @@
 //! Where the units so far have led.
-ghost use Rattle.std.specs.Prelude.{◌≡◌, map, OnOk};
+ghost use Rattle.std.specs.Prelude.{◌≡◌, [], map, OnOk};
 ghost use Rattle.def_wiring.specs.Act.{via_act, net_act};
-ghost use Rattle.def_wiring.specs.Sort.{sort_of};
 ghost use Rattle.def_wiring.specs.Standing.{passed_by, headed, after_entries, after_via, cue_after, told, power_after, after_point, stage_by, section_by, after_net, act_in, after_one, after_two, after_words, section_in, standing_after, at_start};
-ghost use Rattle.reading.specs.Word.{token};
+ghost use Rattle.def_wiring.specs.inside.Value.{says};
+ghost use Rattle.reading.specs.Grammar.{AreHeard};
+ghost use Rattle.reading.specs.Word.{token, heard_token};
 
 use crate::act::{Act, Stage, net_act, via_act};
 use crate::label::{Label, Words};
 use crate::path::{Path, Point};
 use crate::section::Section;
-use crate::sort::{Sort, sort_of};
+use crate::sort::Sort;
 use lef_statements::{OpenName, Passing};
-use reading::Word;
+use reading::{Heard, Word};
 use std::alloc::{AllocError, Global};
 
 /// What the last words of an entry of SPECIALNETS are.
@@ -42,10 +43,10 @@ pub(crate) struct Standing<'a> {
 }
 
 /// What is passed over from a word of the design on.
-fn passed_by<'a>(word: &Word<'a>) -> Option<Passing<'a>>
-    ensures { result ≡ passed_by (sort_of (token word.now)) (token word.now) }
+fn passed_by<'a>(sort: Sort, word: &Word<'a>) -> Option<Passing<'a>>
+    ensures { result ≡ passed_by sort (token word.now) }
 {
-    match sort_of(word) {
+    match sort {
         Sort::PassedSection => Some(Passing::Section(OpenName::new(word.text))),
         Sort::BeginExt => Some(Passing::Extension),
         _ => Some(Passing::Statement),
@@ -211,10 +212,9 @@ impl<'a> Standing<'a> {
         Ok(())
     }
 
-    fn after_net(&mut self, act: Act, word: &Word<'a>)
-        ensures { self.new ≡ after_net act (token word.now) self.old }
+    fn after_net(&mut self, act: Act, sort: Sort, word: &Word<'a>)
+        ensures { self.new ≡ after_net act sort (token word.now) self.old }
     {
-        let sort = sort_of(word);
         self.section = section_by(act);
         self.power = power_after(self.power, told(self.cue, sort));
         self.cue = cue_after(self.cue, sort);
@@ -224,7 +224,7 @@ impl<'a> Standing<'a> {
 
     /// Passes over one more word.
     fn pass_over(&mut self, word: &Word<'a>)
-        ensures { self.new ≡ after_one Section.Passed (token word.now) self.old }
+        ensures { self.new ≡ after_one Section.Passed Sort.Other (token word.now) self.old }
     {
         self.passing = match self.passing.take() {
             Some(passing) => passing.after(word),
@@ -232,18 +232,18 @@ impl<'a> Standing<'a> {
         };
     }
 
-    fn after_one(&mut self, section: Section, word: &Word<'a>) -> Result<(), AllocError>
-        ensures { OnOk result (self.new ≡ after_one section (token word.now) self.old) }
+    fn after_one(&mut self, section: Section, sort: Sort, word: &Word<'a>) -> Result<(), AllocError>
+        ensures { OnOk result (self.new ≡ after_one section sort (token word.now) self.old) }
     {
         match section {
-            Section::Top => self.passing = passed_by(word),
+            Section::Top => self.passing = passed_by(sort, word),
             Section::Via => {
-                let act = self.act(Section::Via, sort_of(word));
+                let act = self.act(Section::Via, sort);
                 self.after_via(act, word)?;
             }
             Section::Net => {
-                let act = self.act(Section::Net, sort_of(word));
-                self.after_net(act, word);
+                let act = self.act(Section::Net, sort);
+                self.after_net(act, sort, word);
             }
             Section::Passed => self.pass_over(word),
             _ => {}
@@ -267,22 +267,24 @@ impl<'a> Standing<'a> {
         ensures { self.new ≡ self.old }
     {}
 
-    fn after_words(&mut self, section: Section, unit: &[Word<'a>]) -> Result<(), AllocError>
-        ensures { OnOk result (self.new ≡ after_words section (map token unit.now) self.old) }
+    fn after_words(&mut self, section: Section, unit: &[Heard<'a, Sort>]) -> Result<(), AllocError>
+        ensures { OnOk result (AreHeard says [] unit.now →
+            self.new ≡ after_words section (map heard_token unit.now) self.old) }
     {
         match unit {
             [] => {}
-            [word] => self.after_one(section, word)?,
-            [first, second] => self.after_two(section, sort_of(first), second),
-            [first, _, _] => self.section = headed(sort_of(first)),
+            [first] => self.after_one(section, first.value, &first.word)?,
+            [first, second] => self.after_two(section, first.value, &second.word),
+            [first, _, _] => self.section = headed(first.value),
             _ => self.stay(),
         }
         Ok(())
     }
 
     /// Goes on to where one more unit leads.
-    pub(crate) fn go_on(&mut self, unit: &[Word<'a>]) -> Result<(), AllocError>
-        ensures { OnOk result (self.new ≡ standing_after self.old (map token unit.now)) }
+    pub(crate) fn go_on(&mut self, unit: &[Heard<'a, Sort>]) -> Result<(), AllocError>
+        ensures { OnOk result (AreHeard says [] unit.now →
+            self.new ≡ standing_after self.old (map heard_token unit.now)) }
     {
         self.after_words(self.section(), unit)
     }

@@ -4,7 +4,7 @@ use Rattle.lef_cells.specs.declared.error.CellsKind.{CellsKind}
 use Rattle.lef_cells.specs.declared.section.Section.{Section}
 use Rattle.lef_cells.specs.declared.section.Section.TheVariants as places
 use Rattle.lef_cells.specs.declared.sort.Sort.{Sort}
-use Rattle.lef_cells.specs.declared.sort.Sort.TheVariants.{Site, Macro, NamedSection, WordSection, BeginExt, End, Library, Size, By, Class, Pin, Group, Semicolon, Bracket, Quoted, Other, TextEnd}
+use Rattle.lef_cells.specs.declared.sort.Sort.TheVariants.{Site, Macro, End, Size, TextEnd}
 use Rattle.lef_cells.specs.Sort.{all_sorts, sort_of, sort_with, number_of, listed}
 use Rattle.lef_cells.specs.Section.{section_of, standing_of}
 use Rattle.lef_cells.specs.Rule.{pattern}

@@ -1,7 +1,9 @@
 pub mod Words
 pub mod Numbers
 pub mod Law
+pub mod Shape
 pub mod Taking
 pub mod Limits
 pub mod One
+pub mod Ending
 pub mod Joining

@@ -15,8 +15,7 @@ use Rattle.lef_cells.specs.Limits.{CellsKeep, SiteKeeps, MacroKeeps}
 use Rattle.lef_cells.specs.Number.{length}
 use Rattle.lef_cells.specs.Record.{SaysSize, SaysSite, SaysMacro, IsCells}
 use Rattle.lef_cells.specs.Rule.{is_head, sections, name_of}
-use Rattle.lef_cells.specs.Section.{is_open}
-use Rattle.lef_cells.specs.inside.Held.{HoldsAll, HoldsIn}
+use Rattle.lef_cells.specs.inside.Held.{is_open, HoldsAll, HoldsIn}
 use Rattle.lef_cells.proofs.Numbers.{Limited}
 use Rattle.reading.specs.Blocks.{Block, blocks}
 use Rattle.reading.specs.Word.{Token}

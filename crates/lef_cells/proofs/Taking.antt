@@ -1,5 +1,5 @@
 -- One more unit.
-use Rattle.std.proofs.Common.{◌≡◌, ℕ, Bool, true, false, cond, List, [], ◌∷◌, ◌++◌, map, filter, Contains, Option, Some, None, Result, Ok, Err, OnOk, refl, sym, ◌∙◌, ap, subst}
+use Rattle.std.proofs.Common.{◌≡◌, ℕ, Bool, true, false, cond, List, [], ◌∷◌, ◌++◌, length, map, filter, Contains, Option, Some, None, Result, Ok, Err, OnOk, refl, sym, ◌∙◌, ap, subst}
 use Rattle.std.specs.Prelude.{unwrap_or}
 use Rattle.std.specs.declared.alloc.AllocError.{AllocError}
 use Rattle.entry_list.specs.InTurn.{InTurn}
@@ -21,13 +21,14 @@ use Rattle.lef_cells.specs.Fault.{SecondFault, last_name}
 use Rattle.lef_cells.specs.Format.{format}
 use Rattle.lef_cells.specs.Record.{SaysSize, SaysSite, SaysMacro, is_block, makes_block}
 use Rattle.lef_cells.specs.Rule.{opens, is_head, is_size, is_class, starts, name_of}
-use Rattle.lef_cells.specs.Section.{is_open, sized, section_by, section_after, standing_of, standing_from, standing_after}
+use Rattle.lef_cells.specs.Section.{sized, section_by, section_after, standing_of, standing_from, standing_after}
 use Rattle.lef_cells.specs.Sort.{the, sort_of}
-use Rattle.lef_cells.specs.inside.Held.{HoldsAll, HoldsIn, HoldsOpen, IsOpen, IsSized, class_said, Leads}
+use Rattle.lef_cells.specs.inside.Held.{is_open, HoldsAll, HoldsIn, HoldsOpen, HasSize, IsOpen, IsSized, class_said, first_size, Leads}
+use Rattle.lef_cells.proofs.Shape.{head_there, end_there, class_there, size_there}
 use Rattle.lef_statements.specs.First.{first_with}
 use Rattle.lef_statements.specs.Laws.{extended, blocks-last, first-stays, first-more, first-same}
 use Rattle.reading.specs.Blocks.{Block, blocks, with_unit}
-use Rattle.reading.specs.Grammar.{NoneShows}
+use Rattle.reading.specs.Grammar.{IsTaken}
 use Rattle.reading.specs.Laws.{blocks-head, blocks-body}
 use Rattle.reading.specs.Word.{Token}
 
@@ -138,22 +139,25 @@ open_stays word units unit said head size class h = open_more word units unit sa
 in_stays : (section : Section) (units : List (List Token)) (unit : List Token) (said : Sections) → is_head unit ≡ false → is_size unit ≡ false → is_class unit ≡ false →
     HoldsIn section units said → HoldsIn section (units ++ unit ∷ []) said
 in_stays places.Site units unit said head size class h = open_stays Site units unit said head size class h
-in_stays places.SizedSite units unit said head size class h = open_stays Site units unit said head size class h
+in_stays places.SizedSite units unit said head size class h = (open_stays Site units unit said head size class h.0, h.1)
 in_stays places.Macro units unit said head size class h = open_stays Macro units unit said head size class h
-in_stays places.SizedMacro units unit said head size class h = open_stays Macro units unit said head size class h
+in_stays places.SizedMacro units unit said head size class h = (open_stays Macro units unit said head size class h.0, h.1)
 in_stays section units unit said head size class h = all_stays units unit said head class h
 
 -- A unit that is no head, no SIZE, no CLASS and no end leaves what is held.
 pub other_leads : (section : Section) (unit : List Token) (said : Sections) → is_head unit ≡ false → is_size unit ≡ false → is_class unit ≡ false →
     section_after section unit ≡ section → Leads section unit said said
-other_leads section unit said head size class same = λ units at fine h.
+other_leads section unit said head size class same = λ units at taken h.
     subst (λ z. HoldsIn z (units ++ unit ∷ []) said) (sym same) (in_stays section units unit said head size class h)
 
 -- So does the end of the library.
-pub end_leads : (first name : Token) (said : Sections) → sort_of first ≡ End → Leads places.Top (first ∷ name ∷ []) said said
-end_leads first name said is = λ units at fine h.
-    subst (λ z. HoldsIn (section_by places.Top z) (units ++ (first ∷ name ∷ []) ∷ []) said) (sym is)
-    (all_stays units (first ∷ name ∷ []) said (ap opens is) (ap (the Class) is) h)
+pub end_leads : (section : Section) (first name : Token) (said : Sections) → sort_of first ≡ End → (section ≡ places.SizedSite → ⊥) →
+    (section ≡ places.SizedMacro → ⊥) → Leads section (first ∷ name ∷ []) said said
+end_leads section first name said is a b = λ units at taken h.
+    let top = end_there section units first name at taken is a b in
+    subst (λ z. HoldsIn (section_by z (sort_of first)) (units ++ (first ∷ name ∷ []) ∷ []) said) (sym top)
+    (subst (λ z. HoldsIn (section_by places.Top z) (units ++ (first ∷ name ∷ []) ∷ []) said) (sym is)
+    (all_stays units (first ∷ name ∷ []) said (ap opens is) (ap (the Class) is) (subst (λ z. HoldsIn z units said) top h)))
 
 -- A first word of two that is no keyword of them.
 other_word : (s : Sort) → (s ≡ Site → ⊥) → (s ≡ Macro → ⊥) → (s ≡ End → ⊥) → (s ≡ Class → ⊥) →
@@ -191,29 +195,31 @@ head_open word units first name said one is opening same h named size block fres
 }
 
 head_by : (s : Sort) (units : List (List Token)) (first name : Token) (said : Sections) (one : Open) → sort_of first ≡ s → opens s ≡ true →
-    places.Top ≡ (standing_of units).section → NoneShows format units [] (first ∷ name ∷ []) →
+    places.Top ≡ (standing_of units).section → IsTaken format units (first ∷ name ∷ []) →
     HoldsAll (blocks is_head units) said → one.name.now ≡ name.text → one.size ≡ None → one.block ≡ None →
     HoldsIn (section_by places.Top s) (units ++ (first ∷ name ∷ []) ∷ []) (with_open said one)
-head_by Site units first name said one is opening at fine h named size block =
+head_by Site units first name said one is opening at taken h named size block =
     head_open Site units first name said one is refl refl h named size block (λ there.
-    fine.1.0 (record { at = 1; kind = Twice }) (
+    taken.fine.1.0 (record { at = 1; kind = Twice }) (
       refl,
       subst (λ z. SecondFault z (standing_of units).section units name.text Twice) (sym is)
           (subst (λ z. SecondFault Site z units name.text Twice) at (refl, there)),
     ))
-head_by Macro units first name said one is opening at fine h named size block =
+head_by Macro units first name said one is opening at taken h named size block =
     head_open Macro units first name said one is refl refl h named size block (λ there.
-    fine.1.0 (record { at = 1; kind = Twice }) (
+    taken.fine.1.0 (record { at = 1; kind = Twice }) (
       refl,
       subst (λ z. SecondFault z (standing_of units).section units name.text Twice) (sym is)
           (subst (λ z. SecondFault Macro z units name.text Twice) at (refl, there)),
     ))
-head_by s units first name said one is opening at fine h named size block = absurd (let t : false ≡ true = opening in cc)
+head_by s units first name said one is opening at taken h named size block = absurd (let t : false ≡ true = opening in cc)
 
-pub head_leads : (first name : Token) (said : Sections) (one : Open) → opens (sort_of first) ≡ true →
-    one.name.now ≡ name.text → one.size ≡ None → one.block ≡ None → Leads places.Top (first ∷ name ∷ []) said (with_open said one)
-head_leads first name said one opening named size block = λ units at fine h.
-    head_by (sort_of first) units first name said one refl opening at fine h named size block
+pub head_leads : (section : Section) (first name : Token) (said : Sections) (one : Open) → opens (sort_of first) ≡ true →
+    one.name.now ≡ name.text → one.size ≡ None → one.block ≡ None → Leads section (first ∷ name ∷ []) said (with_open said one)
+head_leads section first name said one opening named size block = λ units at taken h.
+    let top = head_there section units first name at taken opening in
+    subst (λ z. HoldsIn (section_by z (sort_of first)) (units ++ (first ∷ name ∷ []) ∷ []) (with_open said one)) (sym top)
+    (head_by (sort_of first) units first name said one refl opening (sym top ∙ at) taken (subst (λ z. HoldsIn z units said) top h) named size block)
 
 -- ## a size
 
@@ -239,17 +245,22 @@ size_open word units unit said size head class one says h = open_more word units
 size_in : (section : Section) (units : List (List Token)) (unit : List Token) (said : Sections) (size : TheSize) → is_open section ≡ true → is_head unit ≡ false →
     is_class unit ≡ false → is_size unit ≡ true → SaysSize (Some unit) size.width size.height → HoldsIn section units said →
     HoldsIn (sized section) (units ++ unit ∷ []) (with_open said (record { name = said.open.name; size = Some (unwrap_or said.open.size size); block = said.open.block }))
-size_in places.Site units unit said size there head class one says h = size_open Site units unit said size head class one says h
-size_in places.SizedSite units unit said size there head class one says h = size_open Site units unit said size head class one says h
-size_in places.Macro units unit said size there head class one says h = size_open Macro units unit said size head class one says h
-size_in places.SizedMacro units unit said size there head class one says h = size_open Macro units unit said size head class one says h
+size_in places.Site units unit said size there head class one says h = (size_open Site units unit said size head class one says h, tt)
+size_in places.SizedSite units unit said size there head class one says h = (size_open Site units unit said size head class one says h.0, tt)
+size_in places.Macro units unit said size there head class one says h = (size_open Macro units unit said size head class one says h, tt)
+size_in places.SizedMacro units unit said size there head class one says h = (size_open Macro units unit said size head class one says h.0, tt)
 size_in section units unit said size there head class one says h = absurd (let t : false ≡ true = there in cc)
 
-pub size_leads : (section : Section) (first width by height stop : Token) (said : Sections) (size : TheSize) → is_open section ≡ true → the Size (sort_of first) ≡ true →
-    SaysSize (Some (first ∷ width ∷ by ∷ height ∷ stop ∷ [])) size.width size.height →
+is_the_size : (s : Sort) → the Size s ≡ true → s ≡ Size
+is_the_size Size h = refl
+is_the_size s h = absurd (let t : false ≡ true = h in cc)
+
+pub size_leads : (section : Section) (first width by height stop : Token) (said : Sections) (size : TheSize) →
+    (sort_of first ≡ Size → SaysSize (Some (first ∷ width ∷ by ∷ height ∷ stop ∷ [])) size.width size.height) →
     Leads section (first ∷ width ∷ by ∷ height ∷ stop ∷ []) said (with_open said (record { name = said.open.name; size = Some (unwrap_or said.open.size size); block = said.open.block }))
-size_leads section first width by height stop said size there one says = λ units at fine h.
-    size_in section units (first ∷ width ∷ by ∷ height ∷ stop ∷ []) said size there refl refl one says h
+size_leads section first width by height stop said size says = λ units at taken h.
+    let there = size_there section units first width by height stop at taken in
+    size_in section units (first ∷ width ∷ by ∷ height ∷ stop ∷ []) said size there.0 refl refl there.1 (says (is_the_size _ there.1)) h
 
 -- ## a class
 
@@ -275,16 +286,17 @@ class_in : (section : Section) (units : List (List Token)) (unit : List Token) (
     is_size unit ≡ false → is_class unit ≡ true → block ≡ makes_block unit → HoldsIn section units said →
     HoldsIn section (units ++ unit ∷ []) (with_open said (record { name = said.open.name; size = said.open.size; block = Some (unwrap_or said.open.block block) }))
 class_in places.Site units unit said block there head size one makes h = class_open Site units unit said block head size one makes h
-class_in places.SizedSite units unit said block there head size one makes h = class_open Site units unit said block head size one makes h
+class_in places.SizedSite units unit said block there head size one makes h = (class_open Site units unit said block head size one makes h.0, h.1)
 class_in places.Macro units unit said block there head size one makes h = class_open Macro units unit said block head size one makes h
-class_in places.SizedMacro units unit said block there head size one makes h = class_open Macro units unit said block head size one makes h
+class_in places.SizedMacro units unit said block there head size one makes h = (class_open Macro units unit said block head size one makes h.0, h.1)
 class_in section units unit said block there head size one makes h = absurd (let t : false ≡ true = there in cc)
 
-pub class_leads : (section : Section) (first class : Token) (said : Sections) (block : Bool) → is_open section ≡ true → sort_of first ≡ Class →
+pub class_leads : (section : Section) (first class : Token) (said : Sections) (block : Bool) → sort_of first ≡ Class →
     block ≡ makes_block (first ∷ class ∷ []) →
     Leads section (first ∷ class ∷ []) said (with_open said (record { name = said.open.name; size = said.open.size; block = Some (unwrap_or said.open.block block) }))
-class_leads section first class said block there is makes = λ units at fine h.
+class_leads section first class said block is makes = λ units at taken h.
     let new = with_open said (record { name = said.open.name; size = said.open.size; block = Some (unwrap_or said.open.block block) }) in
+    let there = class_there section units first class at taken is in
     subst (λ z. HoldsIn z (units ++ (first ∷ class ∷ []) ∷ []) new) (sym (ap (section_by section) is))
     (class_in section units (first ∷ class ∷ []) said block there (ap opens is) refl (ap (the Class) is) makes h)
 
@@ -308,13 +320,10 @@ no_site : (head : List Token) (body : List (List Token)) → starts Macro (recor
 no_site [] body h = absurd (let t : false ≡ true = h in cc)
 no_site (first ∷ words) body h = macro_only (sort_of first) h
 
-sized_says : (o : Option (List Token)) (size : Option TheSize) (w h : ℕ) → size ≡ Some (record { width = w; height = h }) → IsSized o size → SaysSize o w h
-sized_says None None w h e s = absurd (let t : ◌≡◌ {A = Option TheSize} None (Some (record { width = w; height = h })) = e in cc)
-sized_says None (Some size) w h e s = absurd s
-sized_says (Some unit) None w h e s = absurd s
-sized_says (Some unit) (Some size) w h e s =
-    let is : size ≡ record { width = w; height = h } = (let t : Some size ≡ Some (record { width = w; height = h }) = e in cc) in
-    subst (λ (z : TheSize). SaysSize (Some unit) z.width z.height) is s
+sized_says : (o : Option (List Token)) (size : Option TheSize) (w h : ℕ) → first_size size ≡ record { width = w; height = h } → HasSize size → IsSized o size → SaysSize o w h
+sized_says o None w h e some s = absurd some
+sized_says None (Some size) w h e some s = absurd s
+sized_says (Some unit) (Some size) w h e some s = subst (λ (z : TheSize). SaysSize (Some unit) z.width z.height) e s
 
 -- A macro's class is what its first CLASS says.
 block_says : (o : Option (List Token)) → unwrap_or (class_said o) false ≡ is_block o
@@ -328,15 +337,15 @@ abbrev pub with_macros : Sections → NamedList MacroCell → Sections
 with_macros said macros = record { sites = said.sites; macros = macros; «open» = said.open }
 
 site_ends : (units : List (List Token)) (unit : List Token) (said : Sections) (sites : NamedList TheSite) (site : TheSite) → is_head unit ≡ false →
-    site.name ≡ said.open.name.now → said.open.size ≡ Some (record { width = site.width; height = site.height }) →
+    site.name ≡ said.open.name.now → first_size said.open.size ≡ record { width = site.width; height = site.height } →
     TakesName said.sites.names sites.names said.open.name.now → sites.entries ≡ said.sites.entries ++ site ∷ [] →
-    HoldsOpen Site units said → HoldsAll (blocks is_head (units ++ unit ∷ [])) (with_sites said sites)
-site_ends units unit said sites site head named size taken entries h =
+    HoldsOpen Site units said × HasSize said.open.size → HoldsAll (blocks is_head (units ++ unit ∷ [])) (with_sites said sites)
+site_ends units unit said sites site head named size taken entries (h, some) =
     subst (λ z. HoldsAll z (with_sites said sites)) (sym (blocks-last is_head units unit h.before h.last head h.is)) (record {
       sites = named-added SaysSite name_of (starts Site) h.before (extended h.last unit) said.sites sites site h.one.begins h.all.sites h.fresh
           (site_stays unit h.last site (record {
             name = named ∙ h.one.name;
-            size = sized_says (first_with is_size h.last.body) said.open.size site.width site.height size h.one.size;
+            size = sized_says (first_with is_size h.last.body) said.open.size site.width site.height size some h.one.size;
           }))
           (subst (λ z. TakesName said.sites.names sites.names z) h.one.name taken) entries;
       macros = named-kept SaysMacro name_of (starts Macro) h.before (extended h.last unit) said.macros
@@ -344,41 +353,58 @@ site_ends units unit said sites site head named size taken entries h =
     })
 
 macro_ends : (units : List (List Token)) (unit : List Token) (said : Sections) (macros : NamedList MacroCell) (cell : MacroCell) → is_head unit ≡ false →
-    is_class unit ≡ false → cell.name ≡ said.open.name.now → said.open.size ≡ Some (record { width = cell.width; height = cell.height }) →
+    is_class unit ≡ false → cell.name ≡ said.open.name.now → first_size said.open.size ≡ record { width = cell.width; height = cell.height } →
     cell.block ≡ unwrap_or said.open.block false →
     TakesName said.macros.names macros.names said.open.name.now → macros.entries ≡ said.macros.entries ++ cell ∷ [] →
-    HoldsOpen Macro units said → HoldsAll (blocks is_head (units ++ unit ∷ [])) (with_macros said macros)
-macro_ends units unit said macros cell head class named size block taken entries h =
+    HoldsOpen Macro units said × HasSize said.open.size → HoldsAll (blocks is_head (units ++ unit ∷ [])) (with_macros said macros)
+macro_ends units unit said macros cell head class named size block taken entries (h, some) =
     subst (λ z. HoldsAll z (with_macros said macros)) (sym (blocks-last is_head units unit h.before h.last head h.is)) (record {
       sites = named-kept SaysSite name_of (starts Site) h.before (extended h.last unit) said.sites
           (no_site h.last.head (h.last.body ++ unit ∷ []) h.one.begins) h.all.sites;
       macros = named-added SaysMacro name_of (starts Macro) h.before (extended h.last unit) said.macros macros cell h.one.begins h.all.macros h.fresh
           (macro_stays unit class h.last cell (record {
             name = named ∙ h.one.name;
-            size = sized_says (first_with is_size h.last.body) said.open.size cell.width cell.height size h.one.size;
+            size = sized_says (first_with is_size h.last.body) said.open.size cell.width cell.height size some h.one.size;
             block = block ∙ ap (λ z. unwrap_or z false) h.one.block ∙ block_says (first_with is_class h.last.body);
           }))
           (subst (λ z. TakesName said.macros.names macros.names z) h.one.name taken) entries;
     })
 
-pub site_leads : (first name : Token) (said : Sections) (sites : NamedList TheSite) (site : TheSite) (r : Result (Unit {0}) AllocError) → sort_of first ≡ End →
-    site.name ≡ said.open.name.now → said.open.size ≡ Some (record { width = site.width; height = site.height }) →
+pub site_leads : (said : Sections) (sites : NamedList TheSite) (site : TheSite) (r : Result (Unit {0}) AllocError) →
+    site.name ≡ said.open.name.now → first_size said.open.size ≡ record { width = site.width; height = site.height } →
     OnOk r (TakesName said.sites.names sites.names said.open.name.now) → OnOk r (sites.entries ≡ said.sites.entries ++ site ∷ []) →
-    OnOk r (Leads places.SizedSite (first ∷ name ∷ []) said (with_sites said sites))
-site_leads first name said sites site (Err x) is named size taken entries = tt
-site_leads first name said sites site (Ok x) is named size taken entries = λ units at fine h.
+    OnOk r ((first name : Token) → sort_of first ≡ End → Leads places.SizedSite (first ∷ name ∷ []) said (with_sites said sites))
+site_leads said sites site (Err x) named size added entries = tt
+site_leads said sites site (Ok x) named size added entries = λ first name is units at taken h.
     subst (λ z. HoldsIn (section_by places.SizedSite z) (units ++ (first ∷ name ∷ []) ∷ []) (with_sites said sites)) (sym is)
-    (site_ends units (first ∷ name ∷ []) said sites site (ap opens is) named size taken entries h)
+    (site_ends units (first ∷ name ∷ []) said sites site (ap opens is) named size added entries h)
 
-pub macro_leads : (first name : Token) (said : Sections) (macros : NamedList MacroCell) (cell : MacroCell) (r : Result (Unit {0}) AllocError) → sort_of first ≡ End →
-    cell.name ≡ said.open.name.now → said.open.size ≡ Some (record { width = cell.width; height = cell.height }) →
+pub macro_leads : (said : Sections) (macros : NamedList MacroCell) (cell : MacroCell) (r : Result (Unit {0}) AllocError) →
+    cell.name ≡ said.open.name.now → first_size said.open.size ≡ record { width = cell.width; height = cell.height } →
     cell.block ≡ unwrap_or said.open.block false →
     OnOk r (TakesName said.macros.names macros.names said.open.name.now) → OnOk r (macros.entries ≡ said.macros.entries ++ cell ∷ []) →
-    OnOk r (Leads places.SizedMacro (first ∷ name ∷ []) said (with_macros said macros))
-macro_leads first name said macros cell (Err x) is named size block taken entries = tt
-macro_leads first name said macros cell (Ok x) is named size block taken entries = λ units at fine h.
+    OnOk r ((first name : Token) → sort_of first ≡ End → Leads places.SizedMacro (first ∷ name ∷ []) said (with_macros said macros))
+macro_leads said macros cell (Err x) named size block added entries = tt
+macro_leads said macros cell (Ok x) named size block added entries = λ first name is units at taken h.
     subst (λ z. HoldsIn (section_by places.SizedMacro z) (units ++ (first ∷ name ∷ []) ∷ []) (with_macros said macros)) (sym is)
-    (macro_ends units (first ∷ name ∷ []) said macros cell (ap opens is) (ap (the Class) is) named size block taken entries h)
+    (macro_ends units (first ∷ name ∷ []) said macros cell (ap opens is) (ap (the Class) is) named size block added entries h)
+
+-- ## units by the number of their words
+
+-- What follows, where all went well.
+pub on_ok : (A B : Type 0) (r : Result (Unit {0}) AllocError) → (A → B) → OnOk r A → OnOk r B
+on_ok A B (Err x) f h = tt
+on_ok A B (Ok x) f h = f h
+
+-- A unit that has neither two words nor five leaves what is held.
+pub length_leads : (section : Section) (unit : List Token) (said : Sections) → (length unit ≡ 2 → ⊥) → (length unit ≡ 5 → ⊥) → Leads section unit said said
+length_leads section [] said a b = other_leads section [] said refl refl refl refl
+length_leads section (x ∷ []) said a b = other_leads section (x ∷ []) said refl refl refl refl
+length_leads section (x ∷ y ∷ []) said a b = absurd (a refl)
+length_leads section (x ∷ y ∷ z ∷ []) said a b = other_leads section (x ∷ y ∷ z ∷ []) said refl refl refl refl
+length_leads section (x ∷ y ∷ z ∷ v ∷ []) said a b = other_leads section (x ∷ y ∷ z ∷ v ∷ []) said refl refl refl refl
+length_leads section (x ∷ y ∷ z ∷ v ∷ w ∷ []) said a b = absurd (b refl)
+length_leads section (x ∷ y ∷ z ∷ v ∷ w ∷ u ∷ unit) said a b = other_leads section (x ∷ y ∷ z ∷ v ∷ w ∷ u ∷ unit) said refl refl refl refl
 
 -- ## the name of the section that is open
 

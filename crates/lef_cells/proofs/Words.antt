@@ -1,34 +1,35 @@
--- Units by the number of their words.
-use Rattle.std.proofs.Common.{◌≡◌, ◌<◌, ◌≤◌, List, [], ◌∷◌, length, get_or, refl, ap, arith}
-use Rattle.reading.specs.declared.word.Word.{Word}
+-- The words of a unit, and what those of units of few words say.
+use Rattle.std.proofs.Common.{◌≡◌, ◌≤◌, List, [], ◌∷◌, length, refl, arith}
+use Rattle.lef_cells.specs.declared.sort.Sort.TheVariants.{Site}
+use Rattle.lef_cells.specs.declared.value.Value.{Value}
+use Rattle.lef_cells.specs.declared.value.Value.TheVariants.{First}
+use Rattle.lef_cells.specs.Format.{format}
+use Rattle.lef_cells.specs.inside.Value.{says}
+use Rattle.reading.specs.declared.word.Heard.{Heard}
 use Rattle.reading.specs.declared.word.Form.TheVariants.{Bare}
+use Rattle.reading.specs.Reading.{IsFine}
+use Rattle.reading.specs.Word.{Token}
 
-abbrev pub no_word : Word
-no_word = record { text = record { ref_ptr = (0, 0); now = [] }; place = record { line = 0; word = 0 }; form = Bare }
+-- The default of a slice's accesses.
+abbrev pub no_word : Heard Value
+no_word = record { word = record { text = record { ref_ptr = (0, 0); now = [] }; place = record { line = 0; word = 0 }; form = Bare }; value = First Site }
 
-zero_words : (xs : List Word) → length xs < 1 → xs ≡ []
-zero_words [] h = refl
-zero_words (x ∷ xs) h = absurd (omega arith)
+pub one_fine : (units : List (List Token)) (w : Token) → IsFine format units (w ∷ [])
+one_fine units w = λ a k. k
 
-pub one_word : (xs : List Word) → 1 ≤ length xs → length xs < 2 → xs ≡ get_or xs 0 no_word ∷ []
-one_word [] h k = absurd (omega arith)
-one_word (x ∷ xs) h k = ap (λ z. x ∷ z) (zero_words xs (omega arith))
+-- Three words, and more than four, show no fault and say nothing.
+pub others_fine : (units : List (List Token)) (part : List Token) → 3 ≤ length part → (length part ≡ 4 → ⊥) → IsFine format units part
+others_fine units [] h k = absurd (omega arith)
+others_fine units (a ∷ []) h k = absurd (omega arith)
+others_fine units (a ∷ b ∷ []) h k = absurd (omega arith)
+others_fine units (a ∷ b ∷ c ∷ []) h k = λ found f. f
+others_fine units (a ∷ b ∷ c ∷ d ∷ []) h k = absurd (k refl)
+others_fine units (a ∷ b ∷ c ∷ d ∷ e ∷ part) h k = λ found f. f
 
-pub two_words : (xs : List Word) → 2 ≤ length xs → length xs < 3 → xs ≡ get_or xs 0 no_word ∷ get_or xs 1 no_word ∷ []
-two_words [] h k = absurd (omega arith)
-two_words (x ∷ xs) h k = ap (λ z. x ∷ z) (one_word xs (omega arith) (omega arith))
-
-three_words : (xs : List Word) → 3 ≤ length xs → length xs < 4 →
-    xs ≡ get_or xs 0 no_word ∷ get_or xs 1 no_word ∷ get_or xs 2 no_word ∷ []
-three_words [] h k = absurd (omega arith)
-three_words (x ∷ xs) h k = ap (λ z. x ∷ z) (two_words xs (omega arith) (omega arith))
-
-pub four_words : (xs : List Word) → 4 ≤ length xs → length xs < 5 →
-    xs ≡ get_or xs 0 no_word ∷ get_or xs 1 no_word ∷ get_or xs 2 no_word ∷ get_or xs 3 no_word ∷ []
-four_words [] h k = absurd (omega arith)
-four_words (x ∷ xs) h k = ap (λ z. x ∷ z) (three_words xs (omega arith) (omega arith))
-
-pub five_words : (xs : List Word) → 5 ≤ length xs → length xs < 6 →
-    xs ≡ get_or xs 0 no_word ∷ get_or xs 1 no_word ∷ get_or xs 2 no_word ∷ get_or xs 3 no_word ∷ get_or xs 4 no_word ∷ []
-five_words [] h k = absurd (omega arith)
-five_words (x ∷ xs) h k = ap (λ z. x ∷ z) (four_words xs (omega arith) (omega arith))
+pub others_said : (part : List Token) (value : Value) → 3 ≤ length part → (length part ≡ 4 → ⊥) → says part value
+others_said [] value h k = absurd (omega arith)
+others_said (a ∷ []) value h k = absurd (omega arith)
+others_said (a ∷ b ∷ []) value h k = absurd (omega arith)
+others_said (a ∷ b ∷ c ∷ []) value h k = tt
+others_said (a ∷ b ∷ c ∷ d ∷ []) value h k = absurd (k refl)
+others_said (a ∷ b ∷ c ∷ d ∷ e ∷ part) value h k = tt

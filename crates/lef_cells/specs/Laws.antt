@@ -1,2 +1,3 @@
 -- Lemmas that crates above use.
 pub mod Joining
+pub mod Shape

@@ -52,14 +52,6 @@ section_after section (first ∷ name ∷ []) = section_by section (sort_of firs
 section_after section (size ∷ width ∷ by ∷ height ∷ stop ∷ []) = sized section
 section_after section _ = section
 
--- A site or a macro is open.
-abbrev pub is_open : Section → Bool
-is_open Site = true
-is_open SizedSite = true
-is_open Macro = true
-is_open SizedMacro = true
-is_open _ = false
-
 -- ## what is passed over in it
 
 -- A word that begins no other unit of the section begins what is passed over: in the library a section or an extension,

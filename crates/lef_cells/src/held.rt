@@ -1,23 +1,25 @@
 //! What has been read of the text of cells.
 //!
-//! A unit that is whole stands in its section, and its lengths have shown no fault. Where one did not stand there, or
-//! could not be read, the answer is want of memory, which no clause ties to anything; it never comes.
-ghost use Rattle.std.specs.Prelude.{◌≡◌, true, false, pos, [], ◌∷◌, OnOk, IfOk, IfSome, map, unwrap_or};
-ghost use Rattle.lef_cells.specs.Number.{length};
+//! The words of a whole unit come with what they say, so that no number is read here, and nothing but an allocation can
+//! fail.
+ghost use Rattle.std.specs.Prelude.{◌≡◌, true, false, [], ◌∷◌, Some, OnOk, IfOk, map, unwrap_or};
+ghost use Rattle.lef_cells.specs.declared.section.Section.{Section as There};
+ghost use Rattle.lef_cells.specs.Record.{SaysSize};
 ghost use Rattle.lef_cells.specs.Rule.{opens};
-ghost use Rattle.lef_cells.specs.Sort.{sort_of, the};
-ghost use Rattle.lef_cells.specs.inside.Held.{HoldsAll, Holds, Leads};
-ghost use Rattle.number_place.specs.Place.{IsNumberAt};
-ghost use Rattle.reading.specs.Word.{token};
+ghost use Rattle.lef_cells.specs.Sort.{sort_of};
+ghost use Rattle.lef_cells.specs.inside.Held.{HoldsAll, Holds, Leads, first_size};
+ghost use Rattle.lef_cells.specs.inside.Value.{says};
+ghost use Rattle.reading.specs.Grammar.{AreHeard};
+ghost use Rattle.reading.specs.Word.{Token, token, heard_token};
 
-use crate::number::length_of;
 use crate::record::{MacroCell, Site};
-use crate::section::{Section, Standing, is_open};
-use crate::sort::{Sort, sort_of};
+use crate::section::{Section, Standing};
+use crate::sort::Sort;
+use crate::value::Value;
 use lef_statements::is_word;
 use named_entries::NamedEntries;
 use outside::Name;
-use reading::Word;
+use reading::{Heard, Word};
 use std::alloc::{AllocError, Global};
 
 /// `SIZE w BY h ;`, in pm.
@@ -46,6 +48,19 @@ impl<'a> Open<'a> {
             name,
             size: None,
             block: None,
+        }
+    }
+
+    /// Its first SIZE; of a section that may end there is one.
+    fn first_size(&self) -> Size
+        ensures { result ≡ first_size self.now.size }
+    {
+        match self.size {
+            Some(size) => size,
+            None => Size {
+                width: 0,
+                height: 0,
+            },
         }
     }
 }
@@ -90,33 +105,20 @@ impl<'a> Held<'a> {
     }
 }
 
-/// A site or a macro opens between the sections of the library.
-fn open_section<'a>(
-    said: &mut Sections<'a>,
-    section: Section,
-    first: &Word<'a>,
-    name: &Word<'a>,
-) -> Result<(), AllocError>
-    requires { opens (sort_of (token first.now)) ≡ true }
-    ensures { OnOk result (Leads section (token first.now ∷ token name.now ∷ []) said.old said.new) }
+/// A site or a macro opens.
+fn open_section<'a>(said: &mut Sections<'a>, name: &Word<'a>)
+    ensures { (section : There) (first : Token) → opens (sort_of first) ≡ true →
+        Leads section (first ∷ token name.now ∷ []) said.old said.new }
 {
-    match section {
-        Section::Top => {
-            said.open = Open::new(name.text);
-            Ok(())
-        }
-        _ => Err(AllocError),
-    }
+    said.open = Open::new(name.text);
 }
 
 /// The site that is open, whole.
 fn site_of(alloc: Global, from: &Open<'_>) -> Result<Site, AllocError>
     ensures name { IfOk result (λ site. site.name ≡ from.now.name.now) }
-    ensures size { IfOk result (λ site. from.now.size ≡ Some (record { width = site.width; height = site.height })) }
+    ensures size { IfOk result (λ site. first_size from.now.size ≡ record { width = site.width; height = site.height }) }
 {
-    let Some(size) = from.size else {
-        return Err(AllocError);
-    };
+    let size = from.first_size();
     Ok(Site {
         name: Name::new(alloc, from.name)?,
         width: size.width,
@@ -127,12 +129,10 @@ fn site_of(alloc: Global, from: &Open<'_>) -> Result<Site, AllocError>
 /// The macro that is open, whole.
 fn macro_of(alloc: Global, from: &Open<'_>) -> Result<MacroCell, AllocError>
     ensures name { IfOk result (λ cell. cell.name ≡ from.now.name.now) }
-    ensures size { IfOk result (λ cell. from.now.size ≡ Some (record { width = cell.width; height = cell.height })) }
+    ensures size { IfOk result (λ cell. first_size from.now.size ≡ record { width = cell.width; height = cell.height }) }
     ensures block { IfOk result (λ cell. cell.block ≡ unwrap_or from.now.block false) }
 {
-    let Some(size) = from.size else {
-        return Err(AllocError);
-    };
+    let size = from.first_size();
     Ok(MacroCell {
         name: Name::new(alloc, from.name)?,
         block: from.block.unwrap_or(false),
@@ -142,15 +142,9 @@ fn macro_of(alloc: Global, from: &Open<'_>) -> Result<MacroCell, AllocError>
 }
 
 /// A site ends, a macro, or the library.
-fn end_section<'a>(
-    said: &mut Sections<'a>,
-    section: Section,
-    alloc: Global,
-    first: &Word<'a>,
-    name: &Word<'a>,
-) -> Result<(), AllocError>
-    requires { sort_of (token first.now) ≡ Sort.End }
-    ensures { OnOk result (Leads section (token first.now ∷ token name.now ∷ []) said.old said.new) }
+fn end_section(said: &mut Sections<'_>, section: Section, alloc: Global) -> Result<(), AllocError>
+    ensures { OnOk result ((first name : Token) → sort_of first ≡ Sort.End →
+        Leads section (first ∷ name ∷ []) said.old said.new) }
 {
     match section {
         Section::SizedSite => {
@@ -161,83 +155,54 @@ fn end_section<'a>(
             let cell = macro_of(alloc, &said.open)?;
             said.macros.add(said.open.name, cell)
         }
-        Section::Top => Ok(()),
-        _ => Err(AllocError),
+        _ => Ok(()),
     }
 }
 
 /// The class of the section that is open.
-fn take_class<'a>(
-    said: &mut Sections<'a>,
-    section: Section,
-    first: &Word<'a>,
-    class: &Word<'a>,
-) -> Result<(), AllocError>
-    requires { sort_of (token first.now) ≡ Sort.Class }
-    ensures { OnOk result (Leads section (token first.now ∷ token class.now ∷ []) said.old said.new) }
+fn take_class(said: &mut Sections<'_>, class: &Word<'_>)
+    ensures { (section : There) (first : Token) → sort_of first ≡ Sort.Class →
+        Leads section (first ∷ token class.now ∷ []) said.old said.new }
 {
-    if !is_open(section) {
-        return Err(AllocError);
-    }
     said.open.block = Some(said.open.block.unwrap_or(is_word(b"BLOCK", class)));
-    Ok(())
 }
 
-/// A unit of two words.
+/// A unit of two words, of which the first is of this sort.
 fn take_two<'a>(
     said: &mut Sections<'a>,
     section: Section,
     alloc: Global,
-    first: &Word<'a>,
+    sort: Sort,
     second: &Word<'a>,
 ) -> Result<(), AllocError>
-    ensures { OnOk result (Leads section (token first.now ∷ token second.now ∷ []) said.old said.new) }
+    ensures { OnOk result ((first : Token) → sort ≡ sort_of first →
+        Leads section (first ∷ token second.now ∷ []) said.old said.new) }
 {
-    match sort_of(first) {
-        Sort::Site => open_section(said, section, first, second),
-        Sort::Macro => open_section(said, section, first, second),
-        Sort::End => end_section(said, section, alloc, first, second),
-        Sort::Class => take_class(said, section, first, second),
+    match sort {
+        Sort::Site => {
+            open_section(said, second);
+            Ok(())
+        }
+        Sort::Macro => {
+            open_section(said, second);
+            Ok(())
+        }
+        Sort::End => end_section(said, section, alloc),
+        Sort::Class => {
+            take_class(said, second);
+            Ok(())
+        }
         _ => Ok(()),
     }
 }
 
 /// The size of the section that is open.
-fn take_size<'a>(
-    said: &mut Sections<'a>,
-    section: Section,
-    unit: &[Word<'a>],
-) -> Result<(), AllocError>
-    ensures { OnOk result (Leads section (map token unit.now) said.old said.new) }
+fn take_size(said: &mut Sections<'_>, size: Size)
+    ensures { (section : There) (first w by h stop : Token) →
+        (sort_of first ≡ Sort.Size → SaysSize (Some (first ∷ w ∷ by ∷ h ∷ stop ∷ [])) size.width size.height) →
+        Leads section (first ∷ w ∷ by ∷ h ∷ stop ∷ []) said.old said.new }
 {
-    let [first, width, _, height, _] = unit else {
-        return Err(AllocError);
-    };
-    let Some(size) = size_of(width, height) else {
-        return Err(AllocError);
-    };
-    if !is_open(section) || !begins_size(first) {
-        return Err(AllocError);
-    }
     said.open.size = Some(said.open.size.unwrap_or(size));
-    Ok(())
-}
-
-/// Whether the word is SIZE.
-fn begins_size(first: &Word<'_>) -> bool
-    ensures { result ≡ the Sort.Size (sort_of (token first.now)) }
-{
-    matches!(sort_of(first), Sort::Size)
-}
-
-/// The size of these two words, if they are lengths.
-fn size_of(width: &Word<'_>, height: &Word<'_>) -> Option<Size>
-    ensures { IfSome result (λ size. IsNumberAt length width.now.text.now (Ok (pos size.width))
-        × IsNumberAt length height.now.text.now (Ok (pos size.height))) }
-{
-    let width = length_of(width.text)?;
-    let height = length_of(height.text)?;
-    Some(Size { width, height })
 }
 
 /// What a whole unit says in this section.
@@ -245,13 +210,22 @@ pub(crate) fn take_unit<'a>(
     said: &mut Sections<'a>,
     section: Section,
     alloc: Global,
-    unit: &[Word<'a>],
+    unit: &[Heard<'a, Value>],
 ) -> Result<(), AllocError>
-    ensures { OnOk result (Leads section (map token unit.now) said.old said.new) }
+    ensures { OnOk result (AreHeard says [] unit.now → Leads section (map heard_token unit.now) said.old said.new) }
 {
     match unit {
-        [_] => Ok(()),
-        [first, second] => take_two(said, section, alloc, first, second),
-        _ => take_size(said, section, unit),
+        [first, second] => take_two(said, section, alloc, first.value.first(), &second.word),
+        [_, width, _, height, _] => {
+            take_size(
+                said,
+                Size {
+                    width: width.value.length(),
+                    height: height.value.length(),
+                },
+            );
+            Ok(())
+        }
+        _ => Ok(()),
     }
 }

@@ -16,6 +16,7 @@ mod record;
 mod rule;
 mod section;
 mod sort;
+mod value;
 
 pub use error::{CellsError, CellsKind};
 pub use laws::texts_have_one_record;

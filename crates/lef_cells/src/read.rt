@@ -1,15 +1,16 @@
-ghost use Rattle.std.specs.Prelude.{◌≡◌, List, IfOk, IfErr};
+ghost use Rattle.std.specs.Prelude.{◌≡◌, List, IfOk};
 ghost use Rattle.lef_cells.specs.Format.{ReadsCells};
 ghost use Rattle.lef_cells.specs.Limits.{CellsKeep};
 ghost use Rattle.lef_cells.specs.Record.{IsCells};
-ghost use Rattle.lef_cells.specs.inside.Held.{Holds};
+ghost use Rattle.lef_cells.specs.Rule.{is_head};
+ghost use Rattle.lef_cells.specs.inside.Held.{HoldsAll};
+ghost use Rattle.reading.specs.Blocks.{blocks};
 ghost use Rattle.reading.specs.Word.{Token};
 
-use crate::error::{CellsError, CellsKind};
+use crate::error::CellsError;
 use crate::format::CellsFormat;
-use crate::held::Held;
+use crate::held::{Held, Sections};
 use crate::record::Cells;
-use crate::section::is_open;
 use number_place::values_fit_their_places;
 use reading::{ReadError, read_into};
 use std::alloc::Global;
@@ -32,22 +33,20 @@ pub fn read_cells(alloc: Global, text: &[u8]) -> Result<Cells, CellsError>
     let Ok(mut held) = Held::new(alloc) else {
         return Err(ReadError::want());
     };
-    read_into(alloc, &CellsFormat, &mut held, text, Mode::LefDef)?;
-    cells_of(held)
+    match read_into(alloc, &CellsFormat, &mut held, text, Mode::LefDef) {
+        Ok(_) => Ok(cells_of(held.said)),
+        Err(error) => Err(error),
+    }
 }
 
-/// The record of what the sections say, none of which is open where the text has ended.
-fn cells_of(held: Held<'_>) -> Result<Cells, CellsError>
-    ensures is { (units : List (List Token)) → Holds units held.entry → IfOk result (IsCells units) }
-    ensures keeps { (units : List (List Token)) → Holds units held.entry → IfOk result CellsKeep }
-    ensures want { IfErr result (λ error. error.kind ≡ CellsKind.Want) }
+/// The record of what the sections say.
+fn cells_of(said: Sections<'_>) -> Cells
+    ensures is { (units : List (List Token)) → HoldsAll (blocks is_head units) said.entry → IsCells units result }
+    ensures keeps { (units : List (List Token)) → HoldsAll (blocks is_head units) said.entry → CellsKeep result }
 {
     values_fit_their_places();
-    if is_open(held.standing.section) {
-        return Err(ReadError::want());
+    Cells {
+        sites: said.sites.into_entries(),
+        macros: said.macros.into_entries(),
     }
-    Ok(Cells {
-        sites: held.said.sites.into_entries(),
-        macros: held.said.macros.into_entries(),
-    })
 }

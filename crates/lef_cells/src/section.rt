@@ -1,12 +1,14 @@
 //! Where the next unit stands.
-ghost use Rattle.std.specs.Prelude.{◌≡◌, map};
-ghost use Rattle.lef_cells.specs.Section.{section_number, all_sections, listed, few, section_in, sized, closed, is_open, section_by, section_after, passing_by, passing_named, passing_after, standing_after};
-ghost use Rattle.lef_cells.specs.Sort.{sort_of};
-ghost use Rattle.reading.specs.Word.{token};
+ghost use Rattle.std.specs.Prelude.{◌≡◌, [], map};
+ghost use Rattle.lef_cells.specs.Section.{section_number, all_sections, listed, few, section_in, sized, closed, section_by, section_after, passing_by, passing_named, passing_after, standing_after};
+ghost use Rattle.lef_cells.specs.inside.Value.{says};
+ghost use Rattle.reading.specs.Grammar.{AreHeard};
+ghost use Rattle.reading.specs.Word.{token, heard_token};
 
-use crate::sort::{Sort, sort_of};
+use crate::sort::Sort;
+use crate::value::Value;
 use lef_statements::{OpenName, Passing};
-use reading::{Numbered, Word};
+use reading::{Heard, Numbered, Word};
 
 /// Where the next unit stands.
 #[derive(Clone, Copy, Debug)]
@@ -69,16 +71,6 @@ fn closed(section: Section) -> Section
     }
 }
 
-/// Whether a site or a macro is open.
-pub(crate) fn is_open(section: Section) -> bool
-    ensures { result ≡ is_open section }
-{
-    match section {
-        Section::Site | Section::SizedSite | Section::Macro | Section::SizedMacro => true,
-        _ => false,
-    }
-}
-
 /// The section after a unit of two words, by the sort of the first.
 fn section_by(section: Section, first: Sort) -> Section
     ensures { result ≡ section_by section first }
@@ -92,21 +84,21 @@ fn section_by(section: Section, first: Sort) -> Section
 }
 
 /// The section after a unit.
-fn section_after(section: Section, unit: &[Word<'_>]) -> Section
-    ensures { result ≡ section_after section (map token unit.now) }
+fn section_after(section: Section, unit: &[Heard<'_, Value>]) -> Section
+    ensures { AreHeard says [] unit.now → result ≡ section_after section (map heard_token unit.now) }
 {
     match unit {
-        [first, _] => section_by(section, sort_of(first)),
+        [first, _] => section_by(section, first.value.first()),
         [_, _, _, _, _] => sized(section),
         _ => section,
     }
 }
 
-/// What is passed over after a word that begins no other unit of the section.
-fn passing_by<'a>(section: Section, word: &Word<'a>) -> Option<Passing<'a>>
-    ensures { result ≡ passing_by section (sort_of (token word.now)) (token word.now) }
+/// What is passed over after a word of this sort that begins no other unit of the section.
+fn passing_by<'a>(section: Section, sort: Sort, word: &Word<'a>) -> Option<Passing<'a>>
+    ensures { result ≡ passing_by section sort (token word.now) }
 {
-    match (section, sort_of(word)) {
+    match (section, sort) {
         (_, Sort::TextEnd) => None,
         (Section::Top, Sort::WordSection) => Some(Passing::Section(OpenName::new(word.text))),
         (Section::Top, Sort::BeginExt) => Some(Passing::Extension),
@@ -115,11 +107,11 @@ fn passing_by<'a>(section: Section, word: &Word<'a>) -> Option<Passing<'a>>
     }
 }
 
-/// What is passed over after a unit of two words.
-fn passing_named<'a>(first: &Word<'a>, second: &Word<'a>) -> Option<Passing<'a>>
-    ensures { result ≡ passing_named (sort_of (token first.now)) (token second.now) }
+/// What is passed over after a unit of two words, by the sort of the first.
+fn passing_named<'a>(first: Sort, second: &Word<'a>) -> Option<Passing<'a>>
+    ensures { result ≡ passing_named first (token second.now) }
 {
-    match sort_of(first) {
+    match first {
         Sort::NamedSection | Sort::Pin => Some(Passing::Section(OpenName::new(second.text))),
         Sort::Class => Some(Passing::Statement),
         _ => None,
@@ -130,16 +122,16 @@ fn passing_named<'a>(first: &Word<'a>, second: &Word<'a>) -> Option<Passing<'a>>
 fn passing_after<'a>(
     section: Section,
     passing: Option<Passing<'a>>,
-    unit: &[Word<'a>],
+    unit: &[Heard<'a, Value>],
 ) -> Option<Passing<'a>>
-    ensures { result ≡ passing_after section passing.entry (map token unit.now) }
+    ensures { AreHeard says [] unit.now → result ≡ passing_after section passing.entry (map heard_token unit.now) }
 {
     match unit {
-        [word] => match passing {
-            Some(passing) => passing.after(word),
-            None => passing_by(section, word),
+        [one] => match passing {
+            Some(passing) => passing.after(&one.word),
+            None => passing_by(section, one.value.first(), &one.word),
         },
-        [first, second] => passing_named(first, second),
+        [first, second] => passing_named(first.value.first(), &second.word),
         _ => None,
     }
 }
@@ -166,8 +158,8 @@ impl<'a> Standing<'a> {
     }
 
     /// Goes on to where one more unit leads.
-    pub(crate) fn go_on(&mut self, unit: &[Word<'a>])
-        ensures { self.new ≡ standing_after self.old (map token unit.now) }
+    pub(crate) fn go_on(&mut self, unit: &[Heard<'a, Value>])
+        ensures { AreHeard says [] unit.now → self.new ≡ standing_after self.old (map heard_token unit.now) }
     {
         self.passing = passing_after(self.section, self.passing.take(), unit);
         self.section = section_after(self.section, unit);

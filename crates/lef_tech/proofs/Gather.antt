@@ -1,6 +1,5 @@
 -- Layers that are gathered in a loop over statements.
-use Rattle.std.proofs.Common.{◌≡◌, ℕ, ◌+◌, ◌<◌, ◌≤◌, List, [], ◌∷◌, length, get_or, drop, Option, sym, ◌∙◌, ap, subst}
-use Rattle.std.proofs.lemmas.List.{append-nil, drop_all}
+use Rattle.std.proofs.Common.{◌≡◌, ℕ, ◌+◌, ◌<◌, List, ◌∷◌, length, get_or, drop, Option, ◌∙◌, ap, subst}
 use Rattle.lef_tech.specs.declared.stack.AnyLayer.{AnyLayer}
 use Rattle.lef_tech.specs.declared.stack.Stack.{Stack}
 use Rattle.lef_tech.specs.declared.statement.Statement.{Statement}

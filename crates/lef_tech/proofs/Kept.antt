@@ -3,12 +3,19 @@ use Rattle.std.proofs.Common.{◌≡◌, ℕ, ◌+◌, ◌-◌, ◌<◌, ◌≤�
 use Rattle.std.specs.List.{range_with_len, filter_map}
 use Rattle.std.proofs.lemmas.List.{get_or-take, get_or_default, take_more, length-take-le}
 use Rattle.std.proofs.lemmas.List.Quantifiers.{all_pairs_push}
+use Rattle.std.proofs.lemmas.List.Elements.{All-from_recursion}
+use Rattle.lef_tech.specs.declared.layer.RoutingLayer.{RoutingLayer}
+use Rattle.lef_tech.specs.declared.layer.CutLayer.{CutLayer}
+use Rattle.lef_tech.specs.declared.rule.ViaRule.{ViaRule}
 use Rattle.lef_tech.specs.declared.stack.AnyLayer.{AnyLayer}
 use Rattle.lef_tech.specs.declared.stack.AnyLayer.TheVariants.{Wire, Hole}
 use Rattle.lef_tech.specs.declared.statement.Statement.{Statement}
 use Rattle.lef_tech.specs.declared.tech.Tech.{Tech}
 use Rattle.lef_tech.specs.Limits.{Rise, RoutingKeeps, CutKeeps, RuleKeeps, TechKeeps, routing_place, cut_place}
-use Rattle.lef_tech.specs.Record.{layers_of, wires_of, cuts_of, order_from, tech_of}
+use Rattle.lef_tech.specs.inside.Looks.{StatementsKeep, WireDensityKeeps, CutDensityKeeps, LayersStand}
+use Rattle.lef_tech.proofs.Counts.{layers_counted, rules_counted}
+use Rattle.lef_tech.proofs.Within.{WireKeeps, HoleKeeps, RuleStands, statement_wires, statement_cuts, statement_rules}
+use Rattle.lef_tech.specs.Record.{layers_of, wires_of, cuts_of, order_from, rules_of, tech_of}
 
 -- ## tables
 
@@ -43,19 +50,54 @@ cuts_kept wires cuts [] = refl
 cuts_kept wires cuts (Wire layer ∷ all) = cuts_kept (wires + 1) cuts all
 cuts_kept wires cuts (Hole layer ∷ all) = ap (λ z. cuts ∷ z) (cuts_kept wires (cuts + 1) all)
 
-pub tech_kept : (tech : Tech) (statements : List Statement) → tech ≡ tech_of statements → length tech.routing < 2 ^ 32 → length tech.cuts < 2 ^ 32 →
-    length tech.rules < 2 ^ 32 → All RoutingKeeps tech.routing → All CutKeeps tech.cuts → All (RuleKeeps tech) tech.rules → TechKeeps tech
-tech_kept tech statements is few_layers few_cuts few_rules routing cuts rules = record {
-  routing_order =
-      ap (λ (z : Tech). filter_map routing_place z.order) is ∙ routing_kept 0 0 (layers_of statements)
-      ∙ ap (λ (z : Tech). range_with_len 0 (length z.routing)) (sym is);
-  cut_order =
-      ap (λ (z : Tech). filter_map cut_place z.order) is ∙ cuts_kept 0 0 (layers_of statements)
-      ∙ ap (λ (z : Tech). range_with_len 0 (length z.cuts)) (sym is);
-  few_layers = few_layers;
-  few_cuts = few_cuts;
-  few_rules = few_rules;
-  routing = routing;
-  cuts = cuts;
-  rules = rules;
+-- ## the whole technology
+
+routing_keeps : (layer : RoutingLayer) → WireKeeps layer → WireDensityKeeps layer → RoutingKeeps layer
+routing_keeps layer h k = record { spacing = h.0; sheet = h.1; density = k }
+
+cut_layer_keeps : (layer : CutLayer) → HoleKeeps layer → CutDensityKeeps layer → CutKeeps layer
+cut_layer_keeps layer h k = record { per_cut = h; density = k }
+
+rule_keeps : (tech : Tech) (rule : ViaRule) → RuleStands rule → LayersStand tech rule → RuleKeeps tech rule
+rule_keeps tech rule h k = record {
+  lower = let below : rule.lower < rule.upper = h.below in let upper : rule.upper < length tech.routing = k.0 in omega arith;
+  upper = k.0;
+  below = h.below;
+  cut = k.1;
+  lower_enclosure = h.lower_enclosure;
+  upper_enclosure = h.upper_enclosure;
+  lower_widths = h.lower_widths;
+  upper_widths = h.upper_widths;
+  some_x = h.some_x;
+  some_y = h.some_y;
+  cut_x = h.cut_x;
+  cut_y = h.cut_y;
+  pitch_x = h.pitch_x;
+  pitch_y = h.pitch_y;
+  per_cut = h.per_cut;
 }
+
+pub tech_kept : (tech : Tech) (statements : List Statement) → tech ≡ tech_of statements → StatementsKeep statements → length statements < 2 ^ 32 → All WireDensityKeeps tech.routing → All CutDensityKeeps tech.cuts → All (LayersStand tech) tech.rules → TechKeeps tech
+tech_kept tech statements is kept few routing cuts rules =
+    let layers : length (wires_of (layers_of statements)) + length (cuts_of (layers_of statements)) ≤ length statements = layers_counted statements in
+    let rule_count : length (rules_of statements) ≤ length statements = rules_counted statements in
+    let few_wires : length (wires_of (layers_of statements)) < 2 ^ 32 = omega arith in
+    let few_holes : length (cuts_of (layers_of statements)) < 2 ^ 32 = omega arith in
+    let few_of_rules : length (rules_of statements) < 2 ^ 32 = omega arith in
+    let wires : All WireKeeps tech.routing = subst (λ (z : Tech). All WireKeeps z.routing) (sym is) (All-from_recursion WireKeeps _ (statement_wires statements kept)) in
+    let holes : All HoleKeeps tech.cuts = subst (λ (z : Tech). All HoleKeeps z.cuts) (sym is) (All-from_recursion HoleKeeps _ (statement_cuts statements kept)) in
+    let stand : All RuleStands tech.rules = subst (λ (z : Tech). All RuleStands z.rules) (sym is) (All-from_recursion RuleStands _ (statement_rules statements kept)) in
+    record {
+      routing_order =
+          ap (λ (z : Tech). filter_map routing_place z.order) is ∙ routing_kept 0 0 (layers_of statements)
+          ∙ ap (λ (z : Tech). range_with_len 0 (length z.routing)) (sym is);
+      cut_order =
+          ap (λ (z : Tech). filter_map cut_place z.order) is ∙ cuts_kept 0 0 (layers_of statements)
+          ∙ ap (λ (z : Tech). range_with_len 0 (length z.cuts)) (sym is);
+      few_layers = subst (λ (z : Tech). length z.routing < 2 ^ 32) (sym is) few_wires;
+      few_cuts = subst (λ (z : Tech). length z.cuts < 2 ^ 32) (sym is) few_holes;
+      few_rules = subst (λ (z : Tech). length z.rules < 2 ^ 32) (sym is) few_of_rules;
+      routing = λ k d lt. routing_keeps (get_or tech.routing k d) (wires k d lt) (routing k d lt);
+      cuts = λ k d lt. cut_layer_keeps (get_or tech.cuts k d) (holes k d lt) (cuts k d lt);
+      rules = λ k d lt. rule_keeps tech (get_or tech.rules k d) (stand k d lt) (rules k d lt);
+    }

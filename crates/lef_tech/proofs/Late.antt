@@ -1,16 +1,15 @@
 -- Faults that a later word shows.
-use Rattle.std.proofs.Common.{◌≡◌, ℕ, ◌+◌, ◌<◌, ◌≤◌, ◌⊎◌, List, [], ◌∷◌, ◌++◌, length, inl, inr, refl, sym, ◌∙◌, ap, subst, arith, length-append}
+use Rattle.std.proofs.Common.{◌≡◌, ℕ, ◌+◌, ◌<◌, ◌⊎◌, List, [], ◌∷◌, ◌++◌, length, inl, inr, refl, sym, ap, subst, arith, length-append}
 use Rattle.lef_tech.specs.declared.error.TechKind.{TechKind}
-use Rattle.lef_tech.specs.declared.number.Quantity.{Quantity}
 use Rattle.lef_tech.specs.declared.question.Question.{Question}
-use Rattle.lef_tech.specs.declared.question.Question.TheVariants.{Nothing, Number, Microns, Point, Value, AllValues, NewLayer, NewRule, KnownLayer, OwnName, Used}
+use Rattle.lef_tech.specs.declared.question.Question.TheVariants.{Nothing, Used}
 use Rattle.lef_tech.specs.declared.section.Section.{Section}
 use Rattle.lef_tech.specs.declared.section.Section.TheVariants as sections
 use Rattle.lef_tech.specs.declared.sort.Sort.{Sort}
 use Rattle.lef_tech.specs.declared.sort.Sort.TheVariants as sorts
 use Rattle.lef_tech.specs.declared.state.State.{State}
-use Rattle.lef_tech.specs.declared.text.Shape.TheVariants.{One, Two, Three, Four, Five, Six, Other}
-use Rattle.lef_tech.specs.Fault.{LastFault, used_found, UsedFault, Asked, FaultIn, fault}
+use Rattle.lef_tech.specs.declared.shape.Shape.TheVariants.{One, Two, Three, Four, Five, Six}
+use Rattle.lef_tech.specs.Fault.{LastFault, used_found, UsedFault, Asked, fault}
 use Rattle.lef_tech.specs.Format.{format}
 use Rattle.lef_tech.specs.Question.{ask_head, ask_end, ask_wire_three, ask_wire_four, ask_cut_three, ask_cut_four, ask_rule_two, ask_wire_part_two, ask_wire_part_three, ask_wire_part_four, ask_cut_part_two, ask_corner, ask_cut_part_four, question_of}
 use Rattle.lef_tech.specs.Sort.{sort_of}
@@ -101,23 +100,23 @@ not_cut_part_four sorts.Rect h = h
 not_cut_part_four sorts.Spacing h = h
 not_cut_part_four s h = h
 
-two_not : (section : Section) (a b : Token) → IsUsed (question_of section (Two a b)) → ⊥
-two_not sections.Top a b h = not_head (sort_of a) h
-two_not sections.Undirected a b h = not_end (sort_of a) h
-two_not sections.Directed a b h = not_end (sort_of a) h
-two_not sections.Cut a b h = not_end (sort_of a) h
-two_not sections.RuleHead a b h = not_rule_two (sort_of a) h
-two_not sections.Rule a b h = not_rule_two (sort_of a) h
-two_not sections.WirePart a b h = not_wire_part_two (sort_of a) h
-two_not sections.CutPart a b h = not_cut_part_two (sort_of a) h
-two_not sections.Units a b h = not_end (sort_of a) h
+two_not : (section : Section) (a b : Sort) → IsUsed (question_of section (Two a b)) → ⊥
+two_not sections.Top a b h = not_head a h
+two_not sections.Undirected a b h = not_end a h
+two_not sections.Directed a b h = not_end a h
+two_not sections.Cut a b h = not_end a h
+two_not sections.RuleHead a b h = not_rule_two a h
+two_not sections.Rule a b h = not_rule_two a h
+two_not sections.WirePart a b h = not_wire_part_two a h
+two_not sections.CutPart a b h = not_cut_part_two a h
+two_not sections.Units a b h = not_end a h
 two_not section a b h = h
 
-five_not : (section : Section) (a b c d e : Token) → IsUsed (question_of section (Five a b c d e)) → ⊥
-five_not sections.CutPart a b c d e h = not_corner (sort_of a) h
+five_not : (section : Section) (a b c d e : Sort) → IsUsed (question_of section (Five a b c d e)) → ⊥
+five_not sections.CutPart a b c d e h = not_corner a h
 five_not section a b c d e h = h
 
-six_not : (section : Section) (a b c d e f : Token) → IsUsed (question_of section (Six a b c d e f)) → ⊥
+six_not : (section : Section) (a b c d e f : Sort) → IsUsed (question_of section (Six a b c d e f)) → ⊥
 six_not sections.Top a b c d e f h = h
 six_not section a b c d e f h = h
 
@@ -147,27 +146,27 @@ cut_four sorts.Current sorts.CutArea h = h
 cut_four sorts.Current t h = h
 cut_four s t h = h
 
-pub record Fewer (section : Section) (a b : Token) : Type 0 where
+pub record Fewer (section : Section) (a b : Sort) : Type 0 where
   pub one : question_of section (One a) ≡ Nothing
   pub two : question_of section (Two a b) ≡ Nothing
 
-three_fronts : (section : Section) (a b c : Token) → IsUsed (question_of section (Three a b c)) → Fewer section a b
-three_fronts sections.Undirected a b c h = record { one = refl; two = wire_three (sort_of a) (sort_of c) h }
-three_fronts sections.Directed a b c h = record { one = refl; two = wire_three (sort_of a) (sort_of c) h }
-three_fronts sections.Cut a b c h = record { one = refl; two = cut_three (sort_of a) (sort_of c) h }
-three_fronts sections.WirePart a b c h = absurd (not_wire_part_three (sort_of a) h)
-three_fronts sections.CutPart a b c h = absurd (not_corner (sort_of a) h)
+three_fronts : (section : Section) (a b c : Sort) → IsUsed (question_of section (Three a b c)) → Fewer section a b
+three_fronts sections.Undirected a b c h = record { one = refl; two = wire_three a c h }
+three_fronts sections.Directed a b c h = record { one = refl; two = wire_three a c h }
+three_fronts sections.Cut a b c h = record { one = refl; two = cut_three a c h }
+three_fronts sections.WirePart a b c h = absurd (not_wire_part_three a h)
+three_fronts sections.CutPart a b c h = absurd (not_corner a h)
 three_fronts section a b c h = absurd h
 
-four_fronts : (section : Section) (a b c d : Token) → IsUsed (question_of section (Four a b c d)) →
+four_fronts : (section : Section) (a b c d : Sort) → IsUsed (question_of section (Four a b c d)) →
     Fewer section a b × (question_of section (Three a b c) ≡ Nothing)
 four_fronts sections.Undirected a b c d h =
-    let t = wire_four (sort_of a) (sort_of c) (sort_of d) (sort_of c) h in (record { one = refl; two = t.0 }, t.1)
+    let t = wire_four a c d c h in (record { one = refl; two = t.0 }, t.1)
 four_fronts sections.Directed a b c d h =
-    let t = wire_four (sort_of a) (sort_of c) (sort_of d) (sort_of c) h in (record { one = refl; two = t.0 }, t.1)
-four_fronts sections.Cut a b c d h = absurd (cut_four (sort_of a) (sort_of c) h)
-four_fronts sections.WirePart a b c d h = absurd (not_wire_part_four (sort_of a) h)
-four_fronts sections.CutPart a b c d h = absurd (not_cut_part_four (sort_of a) h)
+    let t = wire_four a c d c h in (record { one = refl; two = t.0 }, t.1)
+four_fronts sections.Cut a b c d h = absurd (cut_four a c h)
+four_fronts sections.WirePart a b c d h = absurd (not_wire_part_four a h)
+four_fronts sections.CutPart a b c d h = absurd (not_cut_part_four a h)
 four_fronts section a b c d h = absurd h
 
 -- ## fewer words show no fault
@@ -186,7 +185,7 @@ none_left : (more : List Token) → 0 < length more → [] ≡ more → ⊥
 none_left [] some e = omega arith
 none_left (w ∷ more) some e = cc
 
-front_three : (units : List (List Token)) (a b c : Token) → Fewer (state_of units).place.section a b → (front more : List Token) →
+front_three : (units : List (List Token)) (a b c : Token) → Fewer (state_of units).place.section (sort_of a) (sort_of b) → (front more : List Token) →
     a ∷ b ∷ c ∷ [] ≡ front ++ more → 0 < length more → IsFine format units front
 front_three units a b c few [] more e some = λ found h. h
 front_three units a b c few (x ∷ []) more e some =
@@ -197,8 +196,8 @@ front_three units a b c few (x ∷ y ∷ []) more e some =
     (λ found h. asked_none (state_of units) a b 0 _ found few.two h))
 front_three units a b c few (x ∷ y ∷ z ∷ front) more e some = absurd (omega (arith, ap length e, length-append (x ∷ y ∷ z ∷ front) more))
 
-front_four : (units : List (List Token)) (a b c d : Token) → Fewer (state_of units).place.section a b →
-    question_of (state_of units).place.section (Three a b c) ≡ Nothing → (front more : List Token) →
+front_four : (units : List (List Token)) (a b c d : Token) → Fewer (state_of units).place.section (sort_of a) (sort_of b) →
+    question_of (state_of units).place.section (Three (sort_of a) (sort_of b) (sort_of c)) ≡ Nothing → (front more : List Token) →
     a ∷ b ∷ c ∷ d ∷ [] ≡ front ++ more → 0 < length more → IsFine format units front
 front_four units a b c d few three [] more e some = λ found h. h
 front_four units a b c d few three (x ∷ []) more e some =
@@ -225,25 +224,25 @@ pub alone : (units : List (List Token)) (part : List Token) (a : Found TechKind)
 alone units (a ∷ []) x h = inl (omega (arith, h.0))
 alone units (a ∷ b ∷ []) x h = elim (at_last (state_of units) a b 0 _ x h) [
   | inl e ↦ inl e
-  | inr u ↦ absurd (two_not (state_of units).place.section a b u)
+  | inr u ↦ absurd (two_not (state_of units).place.section (sort_of a) (sort_of b) u)
 ]
 alone units (a ∷ b ∷ c ∷ []) x h = elim (at_last (state_of units) b c 1 _ x h) [
   | inl e ↦ inl e
-  | inr u ↦ inr (front_three units a b c (three_fronts (state_of units).place.section a b c u))
+  | inr u ↦ inr (front_three units a b c (three_fronts (state_of units).place.section (sort_of a) (sort_of b) (sort_of c) u))
 ]
 alone units (a ∷ b ∷ c ∷ d ∷ []) x h = elim (at_last (state_of units) c d 2 _ x h) [
   | inl e ↦ inl e
   | inr u ↦
-      let few = four_fronts (state_of units).place.section a b c d u in
+      let few = four_fronts (state_of units).place.section (sort_of a) (sort_of b) (sort_of c) (sort_of d) u in
       inr (front_four units a b c d few.0 few.1)
 ]
 alone units (a ∷ b ∷ c ∷ d ∷ e ∷ []) x h = elim (at_last (state_of units) d e 3 _ x h) [
   | inl is ↦ inl is
-  | inr u ↦ absurd (five_not (state_of units).place.section a b c d e u)
+  | inr u ↦ absurd (five_not (state_of units).place.section (sort_of a) (sort_of b) (sort_of c) (sort_of d) (sort_of e) u)
 ]
 alone units (a ∷ b ∷ c ∷ d ∷ e ∷ f ∷ []) x h = elim (at_last (state_of units) e f 4 _ x h) [
   | inl is ↦ inl is
-  | inr u ↦ absurd (six_not (state_of units).place.section a b c d e f u)
+  | inr u ↦ absurd (six_not (state_of units).place.section (sort_of a) (sort_of b) (sort_of c) (sort_of d) (sort_of e) (sort_of f) u)
 ]
 alone units part x h = absurd h
 

@@ -1,6 +1,5 @@
 -- The laws that the format owes.
-use Rattle.std.proofs.Common.{◌≡◌, ℕ, ◌+◌, ◌<◌, ◌⊎◌, Bool, true, List, [], ◌∷◌, ◌++◌, length, codes, refl, inl, inr, ap, subst, sym, arith}
-use Rattle.lef_tech.specs.declared.error.TechKind.{TechKind}
+use Rattle.std.proofs.Common.{◌≡◌, ℕ, Bool, true, List, [], codes, refl, inr, ap}
 use Rattle.lef_tech.specs.declared.section.Section.{Section}
 use Rattle.lef_tech.specs.declared.section.Section.TheVariants as sections
 use Rattle.lef_tech.specs.declared.sort.Sort.{Sort}

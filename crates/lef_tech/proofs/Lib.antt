@@ -1,4 +1,3 @@
-pub mod Shapes
 pub mod Steps
 pub mod Numbers
 pub mod Late
@@ -7,8 +6,12 @@ pub mod Taking
 pub mod One
 pub mod Layers
 pub mod Learnt
+pub mod Hearing
+pub mod Said
+pub mod Sound
 pub mod Taken
-pub mod Says
 pub mod HasRead
 pub mod Gather
+pub mod Counts
+pub mod Within
 pub mod Kept

@@ -1,7 +1,7 @@
 -- The words of a statement show one kind of fault.
-use Rattle.std.proofs.Common.{◌≡◌, ◌↔◌, IsTrue, Bool, ℕ, ◌+◌, ◌<◌, ◌≤◌, ◌^◌, ◌⊎◌, ℤ, pos, ◌≤ℤ◌, List, Option, Some, None, Result, Ok, Err, inl, inr, refl, sym, ◌∙◌, ap, subst, arith, to_z, of_z}
+use Rattle.std.proofs.Common.{◌≡◌, ◌↔◌, IsTrue, Bool, ℕ, ◌≤◌, ◌^◌, ℤ, ◌≤ℤ◌, List, Result, Ok, Err, inl, inr, sym, ◌∙◌, ap, subst, arith, to_z, of_z}
 use Rattle.std.specs.Prelude.{unsigned_abs}
-use Rattle.std.specs.Int.{w128}
+use Rattle.std.specs.Int.{w64}
 use Rattle.std.proofs.lemmas.Int.{to_z-of_z, fits_signed_from_abs}
 use Rattle.lef_tech.specs.declared.error.TechKind.{TechKind}
 use Rattle.lef_tech.specs.declared.number.Quantity.{Quantity}
@@ -9,11 +9,10 @@ use Rattle.lef_tech.specs.declared.number.Quantity.TheVariants as quantities
 use Rattle.lef_tech.specs.declared.question.Question.{Question}
 use Rattle.lef_tech.specs.declared.question.Question.TheVariants.{Nothing, Number, Microns, Point, Value, AllValues, NewLayer, NewRule, KnownLayer, OwnName, Used}
 use Rattle.lef_tech.specs.declared.state.State.{State}
-use Rattle.lef_tech.specs.Fault.{refused_kind, NumberFault, count_kind, MicronsFault, StandsBelow, PointFault, ValueFault, LastFault, used_found, UsedFault, Asked, FindsFault}
+use Rattle.lef_tech.specs.Fault.{refused_kind, NumberFault, count_kind, MicronsFault, StandsBelow, PointFault, ValueFault, LastFault, used_found, UsedFault, Asked}
 use Rattle.lef_tech.specs.Number.{place_of}
 use Rattle.number_place.specs.declared.place.NumberPlace.{NumberPlace}
 use Rattle.number_place.specs.declared.place.Refused.{Refused}
-use Rattle.number_place.specs.declared.place.Refused.TheVariants as refusals
 use Rattle.number_place.specs.Place.{IsNumberAt}
 use Rattle.reading.specs.declared.refusal.Found.{Found}
 use Rattle.reading.specs.Word.{Token}
@@ -38,14 +37,8 @@ none_refused quantity text v only kind h = no_error h.0 v (only (Err h.0) h.1)
 pub none_counted : (text : List ℕ) (v : ℤ) → IsOnly (place_of quantities.Microns) text (Ok v) → (kind : TechKind) → MicronsFault text kind → ⊥
 none_counted text v only kind h = no_error h.0 v (only (Err h.0) h.1)
 
-pub none_used : (quantity : Quantity) (before : Token) (at : ℕ) (v : ℤ) → IsOnly (place_of quantity) before.text (Ok v) → (found : Found TechKind) → UsedFault before at (Used quantity) found → ⊥
-none_used quantity before at v only found h = no_error h.0 v (only (Err h.0) h.1)
-
--- What is found of a number that is used is found of the word after it.
-pub asked_used : (state : State) (before last : Token) (at : ℕ) (quantity : Quantity) (found : Option (Found TechKind)) →
-    FindsFault (UsedFault before at (Used quantity)) found → FindsFault (Asked state before last at (Used quantity)) found
-asked_used state before last at quantity None h = λ a k. elim k [ inl x ↦ x.1 | inr y ↦ h a y ]
-asked_used state before last at quantity (Some a) h = inr h
+pub none_read : (quantity : Quantity) (text : List ℕ) (v : ℤ) → IsOnly (place_of quantity) text (Ok v) → (refused : Refused) → IsNumberAt (place_of quantity) text (Err refused) → ⊥
+none_read quantity text v only refused h = no_error refused v (only (Err refused) h)
 
 ok_is : (v w : ℤ) → ◌≡◌ {A = Result ℤ Refused} (Ok v) (Ok w) → v ≡ w
 ok_is v w h = cc
@@ -75,11 +68,11 @@ small quantities.CutDensity = omega arith
 small quantities.Area = omega arith
 small quantities.Microns = omega arith
 
-pub kept : (quantity : Quantity) (text : List ℕ) (v : ℤ) → IsNumberAt (place_of quantity) text (Ok v) → to_z w128 (of_z w128 v) ≡ v
+pub kept : (quantity : Quantity) (text : List ℕ) (v : ℤ) → IsNumberAt (place_of quantity) text (Ok v) → to_z w64 (of_z w64 v) ≡ v
 kept quantity text v is =
     let within : unsigned_abs v ≤ (place_of quantity).limit = is.1.2.within in
     let few : (place_of quantity).limit ≤ 10 ^ 18 = small quantity in
-    to_z-of_z w128 v (fits_signed_from_abs w128 v (omega (arith, within, few)))
+    to_z-of_z w64 v (fits_signed_from_abs w64 v (omega (arith, within, few)))
 
 pub number_one : HasOne → (quantity : Quantity) (text : List ℕ) (k l : TechKind) → NumberFault quantity text k → NumberFault quantity text l → l ≡ k
 number_one one quantity text k l h i =

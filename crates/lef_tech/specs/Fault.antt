@@ -1,6 +1,6 @@
 -- The faults of a technology: numbers that are refused, names that stand twice or are not known, tables that do not rise or
 -- whose counts differ, sections that end with another name.
-use Rattle.std.specs.Prelude.{◌≡◌, ◌<◌, ◌≤◌, ◌+◌, ◌⊎◌, ℕ, ℤ, ◌≤ℤ◌, Bool, false, List, map, Contains, Option, Some, None, Ok, Err}
+use Rattle.std.specs.Prelude.{◌≡◌, ◌<◌, ◌+◌, ◌⊎◌, ℕ, ℤ, ◌≤ℤ◌, Bool, false, List, [], ◌∷◌, map, Contains, Ok, Err}
 use Rattle.fixed_decimal.specs.declared.error.DecimalError.TheVariants.{Range}
 use Rattle.lef_statements.specs.Word.{is_word}
 use Rattle.lef_tech.specs.declared.error.TechKind.{TechKind}
@@ -8,12 +8,10 @@ use Rattle.lef_tech.specs.declared.error.TechKind.TheVariants as kinds
 use Rattle.lef_tech.specs.declared.question.Question.{Question}
 use Rattle.lef_tech.specs.declared.question.Question.TheVariants.{Nothing, Number, Microns, Point, Value, AllValues, NewLayer, NewRule, KnownLayer, OwnName, Used}
 use Rattle.lef_tech.specs.declared.state.State.{State}
-use Rattle.lef_tech.specs.declared.text.Shape.{Shape}
-use Rattle.lef_tech.specs.declared.text.Shape.TheVariants.{One, Two, Three, Four, Five, Six, Other}
 use Rattle.lef_tech.specs.Known.{name_of}
 use Rattle.lef_tech.specs.Number.{place_of}
 use Rattle.lef_tech.specs.Question.{question_of}
-use Rattle.lef_tech.specs.Shape.{shape_of}
+use Rattle.lef_tech.specs.Shape.{shape_in}
 use Rattle.lef_tech.specs.Turn.{state_of}
 use Rattle.lef_tech.specs.declared.number.Quantity.{Quantity}
 use Rattle.lef_tech.specs.declared.number.Quantity.TheVariants as quantities
@@ -105,21 +103,16 @@ abbrev pub Asked : State → Token → Token → ℕ → Question → Found Tech
 Asked state before last at asked found =
     ((found.at ≡ at + 1) × LastFault state last asked found.kind) ⊎ UsedFault before at asked found
 
--- The fault that the last of these words shows.
-abbrev pub FaultIn : State → Shape → Found TechKind → Type 0
-FaultIn state (One a) found = (found.at ≡ 0) × LastFault state a (question_of state.place.section (One a)) found.kind
-FaultIn state (Two a b) found = Asked state a b 0 (question_of state.place.section (Two a b)) found
-FaultIn state (Three a b c) found = Asked state b c 1 (question_of state.place.section (Three a b c)) found
-FaultIn state (Four a b c d) found = Asked state c d 2 (question_of state.place.section (Four a b c d)) found
-FaultIn state (Five a b c d e) found = Asked state d e 3 (question_of state.place.section (Five a b c d e)) found
-FaultIn state (Six a b c d e f) found = Asked state e f 4 (question_of state.place.section (Six a b c d e f)) found
-FaultIn state Other found = ⊥
+-- The fault that the last of these words shows, of which this is asked.
+abbrev pub FaultBy : State → Question → List Token → Found TechKind → Type 0
+FaultBy state asked (a ∷ []) found = (found.at ≡ 0) × LastFault state a asked found.kind
+FaultBy state asked (a ∷ b ∷ []) found = Asked state a b 0 asked found
+FaultBy state asked (a ∷ b ∷ c ∷ []) found = Asked state b c 1 asked found
+FaultBy state asked (a ∷ b ∷ c ∷ d ∷ []) found = Asked state c d 2 asked found
+FaultBy state asked (a ∷ b ∷ c ∷ d ∷ e ∷ []) found = Asked state d e 3 asked found
+FaultBy state asked (a ∷ b ∷ c ∷ d ∷ e ∷ f ∷ []) found = Asked state e f 4 asked found
+FaultBy state asked _ found = ⊥
 
 -- The fault of the open unit's words so far, after these units.
 abbrev pub fault : List (List Token) → List Token → Found TechKind → Type 0
-fault units part found = FaultIn (state_of units) (shape_of part) found
-
--- The fault that is found, or that there is none.
-abbrev pub FindsFault : (Found TechKind → Type 0) → Option (Found TechKind) → Type 0
-FindsFault Shows None = (found : Found TechKind) → Shows found → ⊥
-FindsFault Shows (Some found) = Shows found
+fault units part found = FaultBy (state_of units) (question_of (state_of units).place.section (shape_in part)) part found

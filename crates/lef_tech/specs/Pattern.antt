@@ -1,5 +1,5 @@
 -- The statements of a technology (LEF/DEF 5.8 Language Reference, "LEF Syntax": UNITS, LAYER, VIARULE GENERATE).
-use Rattle.std.specs.Prelude.{ℕ, Bool, true, false, ◌==◌, ◌||◌, not, List, [], ◌∷◌}
+use Rattle.std.specs.Prelude.{Bool, false, ◌==◌, ◌||◌, not, List, [], ◌∷◌}
 use Rattle.lef_tech.specs.declared.section.Section.{Section}
 use Rattle.lef_tech.specs.declared.section.Section.TheVariants as sections
 use Rattle.lef_tech.specs.declared.sort.Sort.{Sort}

@@ -7,9 +7,8 @@ use Rattle.lef_tech.specs.declared.section.Section.{Section}
 use Rattle.lef_tech.specs.declared.section.Section.TheVariants as sections
 use Rattle.lef_tech.specs.declared.sort.Sort.{Sort}
 use Rattle.lef_tech.specs.declared.sort.Sort.TheVariants as sorts
-use Rattle.lef_tech.specs.declared.text.Shape.{Shape}
-use Rattle.lef_tech.specs.declared.text.Shape.TheVariants.{One, Two, Three, Four, Five}
-use Rattle.lef_tech.specs.Sort.{sort_of}
+use Rattle.lef_tech.specs.declared.shape.Shape.{Shape}
+use Rattle.lef_tech.specs.declared.shape.Shape.TheVariants.{One, Two, Three, Four, Five}
 
 -- `LAYER name` and `VIARULE name` at the top.
 abbrev pub ask_head : Sort → Question
@@ -18,7 +17,7 @@ ask_head sorts.ViaRule = NewRule
 ask_head _ = Nothing
 
 abbrev pub ask_top : Shape → Question
-ask_top (Two word name) = ask_head (sort_of word)
+ask_top (Two word name) = ask_head word
 ask_top _ = Nothing
 
 -- `END name`.
@@ -41,9 +40,9 @@ ask_wire_four _ _ _ = Nothing
 
 -- A routing layer.
 abbrev pub ask_wire : Shape → Question
-ask_wire (Two word name) = ask_end (sort_of word)
-ask_wire (Three word second last) = ask_wire_three (sort_of word) (sort_of last)
-ask_wire (Four word second third last) = ask_wire_four (sort_of word) (sort_of third) (sort_of last)
+ask_wire (Two word name) = ask_end word
+ask_wire (Three word second last) = ask_wire_three word last
+ask_wire (Four word second third last) = ask_wire_four word third last
 ask_wire _ = Nothing
 
 -- `RESISTANCE v ;`, which is known by its `;`, and `DCCURRENTDENSITY AVERAGE v`.
@@ -60,9 +59,9 @@ ask_cut_four _ _ = Nothing
 
 -- A cut layer.
 abbrev pub ask_cut : Shape → Question
-ask_cut (Two word name) = ask_end (sort_of word)
-ask_cut (Three word second last) = ask_cut_three (sort_of word) (sort_of last)
-ask_cut (Four word second third last) = ask_cut_four (sort_of word) (sort_of third)
+ask_cut (Two word name) = ask_end word
+ask_cut (Three word second last) = ask_cut_three word last
+ask_cut (Four word second third last) = ask_cut_four word third
 ask_cut _ = Nothing
 
 -- A point of a table, unless `;` ends the points.
@@ -72,7 +71,7 @@ ask_point points _ = Point points
 
 -- A table among its points: one more point, or `; TABLEENTRIES v`.
 abbrev pub ask_table : Quantity → Quantity → Shape → Question
-ask_table points values (One word) = ask_point points (sort_of word)
+ask_table points values (One word) = ask_point points word
 ask_table points values (Three word second last) = Number values
 ask_table points values _ = Nothing
 
@@ -83,7 +82,7 @@ ask_value values _ = Value values
 
 -- A table among its entries.
 abbrev pub ask_values : Quantity → Shape → Question
-ask_values values (One word) = ask_value values (sort_of word)
+ask_values values (One word) = ask_value values word
 ask_values values _ = Nothing
 
 -- `END name` and `LAYER name`.
@@ -94,7 +93,7 @@ ask_rule_two _ = Nothing
 
 -- A rule before its first layer or after one of another type.
 abbrev pub ask_rule : Shape → Question
-ask_rule (Two word name) = ask_rule_two (sort_of word)
+ask_rule (Two word name) = ask_rule_two word
 ask_rule _ = Nothing
 
 -- `END name`, `LAYER name`, `ENCLOSURE o`, `WIDTH a`.
@@ -117,9 +116,9 @@ ask_wire_part_four _ = Nothing
 
 -- A rule after a routing layer.
 abbrev pub ask_wire_part : Shape → Question
-ask_wire_part (Two word second) = ask_wire_part_two (sort_of word)
-ask_wire_part (Three word second third) = ask_wire_part_three (sort_of word)
-ask_wire_part (Four word second third fourth) = ask_wire_part_four (sort_of word)
+ask_wire_part (Two word second) = ask_wire_part_two word
+ask_wire_part (Three word second third) = ask_wire_part_three word
+ask_wire_part (Four word second third fourth) = ask_wire_part_four word
 ask_wire_part _ = Nothing
 
 -- `END name`, `LAYER name`, `RECT x`, `SPACING x`, `RESISTANCE v`.
@@ -144,15 +143,15 @@ ask_cut_part_four _ = Nothing
 
 -- A rule after its cut layer.
 abbrev pub ask_cut_part : Shape → Question
-ask_cut_part (Two word second) = ask_cut_part_two (sort_of word)
-ask_cut_part (Three word second third) = ask_corner (sort_of word)
-ask_cut_part (Four word second third fourth) = ask_cut_part_four (sort_of word)
-ask_cut_part (Five word second third fourth fifth) = ask_corner (sort_of word)
+ask_cut_part (Two word second) = ask_cut_part_two word
+ask_cut_part (Three word second third) = ask_corner word
+ask_cut_part (Four word second third fourth) = ask_cut_part_four word
+ask_cut_part (Five word second third fourth fifth) = ask_corner word
 ask_cut_part _ = Nothing
 
 -- `END UNITS`, `DATABASE MICRONS n`.
 abbrev pub ask_units : Shape → Question
-ask_units (Two word name) = ask_end (sort_of word)
+ask_units (Two word name) = ask_end word
 ask_units (Three word second third) = Microns
 ask_units _ = Nothing
 

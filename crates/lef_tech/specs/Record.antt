@@ -1,5 +1,5 @@
 -- What a technology says: its layers and rules, by their statements.
-use Rattle.std.specs.Prelude.{◌≡◌, ℕ, ◌+◌, ◌&&◌, ◌<◌, Bool, true, false, nat_lt, nat_le, List, [], ◌∷◌, ◌++◌, Option, Some, None, if◌then◌else◌}
+use Rattle.std.specs.Prelude.{◌≡◌, ℕ, ◌+◌, ◌&&◌, Bool, true, false, nat_lt, nat_le, List, [], ◌∷◌, ◌++◌, Option, Some, None, if◌then◌else◌}
 use Rattle.std.specs.List.{zip}
 use Rattle.geom_rect.specs.declared.direction.Axis.{Axis}
 use Rattle.lef_tech.specs.declared.facts.Facts.{Facts}
@@ -19,7 +19,7 @@ use Rattle.lef_tech.specs.declared.state.State.{State}
 use Rattle.lef_tech.specs.declared.statement.Statement.{Statement}
 use Rattle.lef_tech.specs.declared.statement.Statement.TheVariants.{Layer, Rule, Part, Wires, Cuts, Along, Spacing, Resistance, Density, Table, Point, Value, Enclosure, Widths, Extent, Pitch}
 use Rattle.lef_tech.specs.declared.tech.Tech.{Tech}
-use Rattle.lef_tech.specs.Shape.{shape_of}
+use Rattle.lef_tech.specs.Shape.{shape_in}
 use Rattle.lef_tech.specs.State.{first_state}
 use Rattle.lef_tech.specs.Statement.{saying, Says}
 use Rattle.lef_tech.specs.Turn.{named, state_after}
@@ -31,8 +31,8 @@ use Rattle.reading.specs.Word.{Token}
 abbrev pub Told : State → List (List Token) → List (Option Statement) → Type 0
 Told state [] [] = Unit {0}
 Told state (unit ∷ units) (told ∷ others) =
-    Says (saying state.place.section (named state (shape_of unit)) (shape_of unit)) told
-    × Told (state_after state (shape_of unit)) units others
+    Says unit (saying state.place.section (named state unit) (shape_in unit)) told
+    × Told (state_after state unit) units others
 Told state _ _ = ⊥
 
 -- The statement that a unit says, if it says one.

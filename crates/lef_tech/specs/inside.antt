@@ -1,2 +1,4 @@
+pub mod Value
 pub mod Held
 pub mod Stack
+pub mod Looks

@@ -1,19 +1,22 @@
-//! The faults that the words of a statement show.
-ghost use Rattle.std.specs.Prelude.{◌≡◌, ◌↔◌, ◌<◌, ◌≤ℤ◌, IsTrue, map};
-ghost use Rattle.lef_tech.specs.Fault.{refused_kind, NumberFault, count_kind, MicronsFault, StandsBelow, PointFault, ValueFault, TableEndFault, TwiceFault, UnknownFault, OwnNameFault, LastFault, used_found, UsedFault, Asked, FindsFault, FaultIn};
-ghost use Rattle.lef_tech.specs.Shape.{shape_of};
-ghost use Rattle.reading.specs.Fault.{Finds};
-ghost use Rattle.reading.specs.Word.{token};
+//! What the words of a statement say, and the faults that they show.
+ghost use Rattle.std.specs.Prelude.{◌≡◌, ◌<◌, ◌≤◌, ◌-◌, ◌^◌, ◌∷◌, ◌++◌, [], IsTrue, length, map};
+ghost use Rattle.lef_tech.specs.Fault.{refused_kind, NumberFault, count_kind, MicronsFault, PointFault, ValueFault, TableEndFault, TwiceFault, UnknownFault, OwnNameFault, LastFault, used_found};
+ghost use Rattle.lef_tech.specs.declared.state.State.{State as Known};
+ghost use Rattle.lef_tech.specs.Sort.{sort_of};
+ghost use Rattle.lef_tech.specs.inside.Value.{IsText, SaysLast, used_of, SaysHeard, SaysPlain, TellsBy, TellsUsed};
+ghost use Rattle.reading.specs.Fault.{FindsValue};
+ghost use Rattle.reading.specs.Word.{Token, token, heard_token};
 
 use crate::error::TechKind;
-use crate::number::{Quantity, read_number};
-use crate::question::{Question, question_of};
-use crate::section::Section;
-use crate::state::{Place, State};
-use crate::text::{Shape, Term, shape_of};
+use crate::number::Quantity;
+use crate::question::Question;
+use crate::sort::Sort;
+use crate::state::State;
+use crate::value::{Value, is_at_most, plain, read_number};
 use fixed_decimal::DecimalError;
+use lef_statements::is_word;
 use number_place::Refused;
-use reading::{Found, Word, found_at};
+use reading::{Found, Heard, Word, last_heard, told_at};
 
 /// The kind of a number that is refused.
 fn refused_kind(refused: Refused) -> TechKind
@@ -25,13 +28,13 @@ fn refused_kind(refused: Refused) -> TechKind
     }
 }
 
-/// Why the text is refused as a number of this kind.
-fn number_fault(quantity: Quantity, text: &[u8]) -> Option<TechKind>
-    ensures { Finds (NumberFault quantity text.now) result }
+/// What a number of this kind says, or why the text is refused.
+fn number_value(quantity: Quantity, sort: Sort, text: &[u8]) -> Result<Value, TechKind>
+    ensures { FindsValue (NumberFault quantity text.now) (SaysHeard (IsText quantity text.now) sort) result }
 {
-    match read_number(quantity, text) {
-        Ok(_) => None,
-        Err(refused) => Some(refused_kind(refused)),
+    match read_number(quantity, sort, text) {
+        Ok(value) => Ok(value),
+        Err(refused) => Err(refused_kind(refused)),
     }
 }
 
@@ -45,58 +48,51 @@ fn count_kind(refused: Refused) -> TechKind
     }
 }
 
-/// Why the units of a micrometre are refused.
-fn microns_fault(text: &[u8]) -> Option<TechKind>
-    ensures { Finds (MicronsFault text.now) result }
+/// The units of a micrometre, or why they are refused.
+fn microns_value(sort: Sort, text: &[u8]) -> Result<Value, TechKind>
+    ensures { FindsValue (MicronsFault text.now) (SaysPlain sort) result }
 {
-    match read_number(Quantity::Microns, text) {
-        Ok(_) => None,
-        Err(refused) => Some(count_kind(refused)),
+    match read_number(Quantity::Microns, sort, text) {
+        Ok(value) => Ok(value),
+        Err(refused) => Err(count_kind(refused)),
     }
 }
 
-fn is_at_most(a: i128, b: i128) -> bool
-    ensures { IsTrue result ↔ (a ≤ℤ b) }
+/// What a point of a table says, or why it is refused after the point before.
+fn point_value(
+    quantity: Quantity,
+    before: &[u8],
+    sort: Sort,
+    point: &[u8],
+) -> Result<Value, TechKind>
+    ensures { FindsValue (PointFault quantity before.now point.now) (SaysHeard (IsText quantity point.now) sort) result }
 {
-    a <= b
-}
-
-/// Whether a point of a table is not above the point before.
-fn stands_below(quantity: Quantity, before: &[u8], point: &[u8]) -> bool
-    ensures { IsTrue result ↔ StandsBelow quantity before.now point.now }
-{
-    match (read_number(quantity, before), read_number(quantity, point)) {
-        (Ok(low), Ok(high)) => is_at_most(high, low),
-        _ => false,
-    }
-}
-
-/// Why a point of a table is refused.
-fn point_fault(quantity: Quantity, before: &[u8], point: &[u8]) -> Option<TechKind>
-    ensures { Finds (PointFault quantity before.now point.now) result }
-{
-    if let Some(kind) = number_fault(quantity, point) {
-        return Some(kind);
-    }
-    if stands_below(quantity, before, point) {
-        Some(TechKind::BadTable)
-    } else {
-        None
-    }
-}
-
-/// Why an entry of a table is refused, where so many points have none.
-fn value_fault(quantity: Quantity, left: usize, text: &[u8]) -> Option<TechKind>
-    ensures { Finds (ValueFault quantity left text.now) result }
-{
-    match read_number(quantity, text) {
-        Err(refused) => Some(refused_kind(refused)),
-        Ok(_) => {
-            if left == 0 {
-                Some(TechKind::BadTable)
-            } else {
-                None
+    match (
+        read_number(quantity, sort, before),
+        read_number(quantity, sort, point),
+    ) {
+        (_, Err(refused)) => Err(refused_kind(refused)),
+        (Err(_), Ok(value)) => Ok(value),
+        (Ok(low), Ok(value)) => {
+            if is_at_most(value, low) {
+                return Err(TechKind::BadTable);
             }
+            Ok(value)
+        }
+    }
+}
+
+/// What an entry of a table says, or why it is refused where so many points have none.
+fn entry_value(quantity: Quantity, left: usize, sort: Sort, text: &[u8]) -> Result<Value, TechKind>
+    ensures { FindsValue (ValueFault quantity left text.now) (SaysHeard (IsText quantity text.now) sort) result }
+{
+    match read_number(quantity, sort, text) {
+        Err(refused) => Err(refused_kind(refused)),
+        Ok(value) => {
+            if left == 0 {
+                return Err(TechKind::BadTable);
+            }
+            Ok(value)
         }
     }
 }
@@ -104,7 +100,7 @@ fn value_fault(quantity: Quantity, left: usize, text: &[u8]) -> Option<TechKind>
 /// The fault of a number that is refused and has this many words before it, where the word after it shows that it is
 /// used.
 fn used_found(refused: Refused, at: usize) -> Found<TechKind>
-    requires { at < 5 }
+    requires { at < 2 ^ 64 - 1 }
     ensures { result ≡ used_found refused at }
 {
     match refused {
@@ -119,112 +115,137 @@ fn used_found(refused: Refused, at: usize) -> Found<TechKind>
     }
 }
 
-/// The fault of the word before, which the last one shows to be used.
-fn used_fault(quantity: Quantity, before: &Term<'_>, at: usize) -> Option<Found<TechKind>>
-    requires { at < 5 }
-    ensures { FindsFault (UsedFault before.now at (Question.Used quantity)) result }
+/// What the word says that shows the number before it to be used, or that number's fault.
+fn used_value(
+    quantity: Quantity,
+    before: &[u8],
+    at: usize,
+    sort: Sort,
+) -> Result<Value, Found<TechKind>>
+    requires { at < 2 ^ 64 - 1 }
+    ensures { TellsUsed quantity before.now at sort result }
 {
-    match read_number(quantity, before.text()) {
-        Ok(_) => None,
-        Err(refused) => Some(used_found(refused, at)),
+    match read_number(quantity, sort, before) {
+        Ok(value) => Ok(value),
+        Err(refused) => Err(used_found(refused, at)),
     }
 }
 
-/// Why the `;` of a table is refused, where so many points have no entry.
-fn table_end_fault(left: usize) -> Option<TechKind>
-    ensures { Finds (TableEndFault left) result }
+/// What the `;` of a table says, or why it is refused where so many points have no entry.
+fn table_end_value(left: usize, sort: Sort) -> Result<Value, TechKind>
+    ensures { FindsValue (TableEndFault left) (SaysPlain sort) result }
 {
     if left == 0 {
-        None
+        Ok(plain(sort))
     } else {
-        Some(TechKind::BadTable)
+        Err(TechKind::BadTable)
     }
 }
 
-/// Why the name of a new layer or rule is refused.
-fn twice_fault(stands: bool) -> Option<TechKind>
-    ensures { Finds (TwiceFault (IsTrue stands)) result }
-{
-    if stands { Some(TechKind::Twice) } else { None }
-}
-
-/// Why the name of a layer is refused.
-fn unknown_fault(stands: bool) -> Option<TechKind>
-    ensures { Finds (UnknownFault (IsTrue stands)) result }
+/// What the name of a new layer or rule says, or why it is refused.
+fn new_name_value(stands: bool, sort: Sort) -> Result<Value, TechKind>
+    ensures { FindsValue (TwiceFault (IsTrue stands)) (SaysPlain sort) result }
 {
     if stands {
-        None
+        Err(TechKind::Twice)
     } else {
-        Some(TechKind::UnknownLayer)
+        Ok(plain(sort))
     }
 }
 
-/// Why the word after `END` is refused.
-fn own_name_fault(is: bool) -> Option<TechKind>
-    ensures { Finds (OwnNameFault is) result }
+/// What the name of a layer says, or why it is refused.
+fn layer_value(stands: bool, sort: Sort) -> Result<Value, TechKind>
+    ensures { FindsValue (UnknownFault (IsTrue stands)) (SaysPlain sort) result }
 {
-    if is { None } else { Some(TechKind::Syntax) }
-}
-
-/// Why the last word is refused, of which this is asked.
-fn last_fault<'a>(state: &State<'a>, question: Question, last: &Term<'a>) -> Option<TechKind>
-    ensures { Finds (LastFault state.now last.now question) result }
-{
-    match question {
-        Question::Nothing | Question::Used(_) => None,
-        Question::Number(quantity) => number_fault(quantity, last.text()),
-        Question::Microns => microns_fault(last.text()),
-        Question::Point(quantity) => {
-            point_fault(quantity, state.place.point.bytes(), last.text())
-        }
-        Question::Value(quantity) => value_fault(quantity, state.place.left, last.text()),
-        Question::AllValues => table_end_fault(state.place.left),
-        Question::NewLayer => twice_fault(state.layers.contains(last.text())),
-        Question::NewRule => twice_fault(state.rules.contains(last.text())),
-        Question::KnownLayer => unknown_fault(state.layers.contains(last.text())),
-        Question::OwnName => own_name_fault(last.is(state.place.name.bytes())),
+    if stands {
+        Ok(plain(sort))
+    } else {
+        Err(TechKind::UnknownLayer)
     }
 }
 
-/// The fault that the last word shows, which has so many words before it.
-fn asked<'a>(
+/// What the word after `END` says, or why it is refused.
+fn own_name_value(is: bool, sort: Sort) -> Result<Value, TechKind>
+    ensures { FindsValue (OwnNameFault is) (SaysPlain sort) result }
+{
+    if is {
+        Ok(plain(sort))
+    } else {
+        Err(TechKind::Syntax)
+    }
+}
+
+/// What the last word says, of which this is asked, or why it is refused.
+fn last_value<'a>(
     state: &State<'a>,
     question: Question,
-    before: &Term<'a>,
-    last: &Term<'a>,
-    at: usize,
-) -> Option<Found<TechKind>>
-    requires { at < 5 }
-    ensures { FindsFault (Asked state.now before.now last.now at question) result }
+    last: &Word<'a>,
+    sort: Sort,
+) -> Result<Value, TechKind>
+    ensures { FindsValue (LastFault state.now (token last.now) question)
+        (SaysHeard (SaysLast question last.now.text.now) sort) result }
+{
+    let text = last.text;
+    match question {
+        Question::Nothing | Question::Used(_) => Ok(plain(sort)),
+        Question::Number(quantity) => number_value(quantity, sort, text),
+        Question::Microns => microns_value(sort, text),
+        Question::Point(quantity) => point_value(quantity, state.place.point.bytes(), sort, text),
+        Question::Value(quantity) => entry_value(quantity, state.place.left, sort, text),
+        Question::AllValues => table_end_value(state.place.left, sort),
+        Question::NewLayer => new_name_value(state.layers.contains(text), sort),
+        Question::NewRule => new_name_value(state.rules.contains(text), sort),
+        Question::KnownLayer => layer_value(state.layers.contains(text), sort),
+        Question::OwnName => own_name_value(is_word(state.place.name.bytes(), last), sort),
+    }
+}
+
+/// The kind of the number before the last word, which that word shows to be used.
+fn used_of(question: Question) -> Option<Quantity>
+    ensures { result ≡ used_of question }
 {
     match question {
-        Question::Used(quantity) => used_fault(quantity, before, at),
-        _ => found_at(at + 1, last_fault(state, question, last)),
+        Question::Used(quantity) => Some(quantity),
+        _ => None,
     }
 }
 
-/// The fault that the last of these words shows.
-fn fault_in<'a>(state: &State<'a>, shape: &Shape<'a>) -> Option<Found<TechKind>>
-    ensures { FindsFault (FaultIn state.now shape.now) result }
+/// What the word says that comes after these and shows the number before it to be used, or that number's fault.
+fn used_after(
+    quantity: Quantity,
+    before: &[Heard<'_, Value>],
+    sort: Sort,
+) -> Result<Value, Found<TechKind>>
+    ensures { (state : Known) (word : Token) → sort ≡ sort_of word → length before.now < 6 →
+        TellsBy state (Question.Used quantity) (map heard_token before.now ++ word ∷ []) result }
 {
-    let question = question_of(state.place.section, shape);
-    match shape {
-        Shape::One(a) => found_at(0, last_fault(state, question, a)),
-        Shape::Two(a, b) => asked(state, question, a, b, 0),
-        Shape::Three(_, b, c) => asked(state, question, b, c, 1),
-        Shape::Four(_, _, c, d) => asked(state, question, c, d, 2),
-        Shape::Five(_, _, _, d, e) => asked(state, question, d, e, 3),
-        Shape::Six(_, _, _, _, e, f) => asked(state, question, e, f, 4),
-        Shape::Other => None,
+    match last_heard(before) {
+        Some(last) => {
+            used_value(
+                quantity,
+                last.word.text,
+                before.len().saturating_sub(1),
+                sort,
+            )
+        },
+        None => Ok(plain(sort)),
     }
 }
 
-/// The fault that the last word of the open unit shows; a word that is passed over shows none.
-pub(crate) fn fault_of<'a>(state: &State<'a>, unit: &[Word<'a>]) -> Option<Found<TechKind>>
-    ensures { FindsFault (FaultIn state.now (shape_of (map token unit.now))) result }
+/// What the word says that comes after these, of which this is asked, or the fault that it shows. Nothing is asked of
+/// a seventh word.
+pub(crate) fn heard_value<'a>(
+    state: &State<'a>,
+    question: Question,
+    before: &[Heard<'a, Value>],
+    word: &Word<'a>,
+    sort: Sort,
+) -> Result<Value, Found<TechKind>>
+    ensures { sort ≡ sort_of (token word.now) → (6 ≤ length before.now → question ≡ Question.Nothing) →
+        TellsBy state.now question (map heard_token before.now ++ token word.now ∷ []) result }
 {
-    match state.place.section {
-        Section::Passing => None,
-        _ => fault_in(state, &shape_of(unit)),
+    match used_of(question) {
+        Some(quantity) => used_after(quantity, before, sort),
+        None => told_at(before.len(), last_value(state, question, word, sort)),
     }
 }

@@ -4,19 +4,22 @@ ghost use Rattle.lef_tech.specs.Format.{format, is_ended};
 ghost use Rattle.lef_tech.specs.Pattern.{pattern};
 ghost use Rattle.lef_tech.specs.Sort.{all_sorts};
 ghost use Rattle.lef_tech.specs.inside.Held.{Holds};
+ghost use Rattle.lef_tech.specs.inside.Value.{says};
 ghost use Rattle.reading.specs.Grammar.{IsRegular};
 
 use crate::error::TechKind;
-use crate::fault::fault_of;
+use crate::fault::heard_value;
 use crate::held::{Held, add_told};
-use crate::moving::{move_on, named, pass_over};
+use crate::moving::{move_on, named};
 use crate::pattern::rule;
+use crate::question::question_of;
 use crate::section::Section;
+use crate::shape::{shape_of, shape_with};
 use crate::sort::{Sort, sort_of};
 use crate::statement::statement_of;
-use crate::text::{only_word, shape_of};
-use number_place::texts_have_one_number;
-use reading::{Found, Grammar, Rule, Word};
+use crate::value::Value;
+use number_place::{texts_have_one_number, values_fit_their_places};
+use reading::{Found, Grammar, Heard, Rule, Word, last_heard};
 use std::alloc::AllocError;
 
 /// The format of technologies, which depends on nothing but the text.
@@ -41,9 +44,13 @@ impl<'a> Grammar<'a> for TechFormat {
 
     type Kind = TechKind;
 
+    type Value = Value;
+
     ghost format = { λ tech. format };
 
     ghost pattern = { pattern };
+
+    ghost says = { λ tech. says };
 
     ghost holds = { λ tech held units. Holds units held };
 
@@ -59,25 +66,32 @@ impl<'a> Grammar<'a> for TechFormat {
         rule(section)
     }
 
-    fn fault(&self, said: &Held<'a>, unit: &[Word<'a>]) -> Option<Found<TechKind>> {
-        fault_of(&said.state, unit)
+    fn hear(
+        &self,
+        said: &Held<'a>,
+        before: &[Heard<'a, Value>],
+        word: &Word<'a>,
+        sort: Sort,
+    ) -> Result<Value, Found<TechKind>> {
+        let question = question_of(said.state.place.section, shape_with(before, sort));
+        heard_value(&said.state, question, before, word, sort)
     }
 
     fn ends(&self, said: &Held<'a>) -> bool {
         is_ended(said.state.place.section)
     }
 
-    fn take(&self, said: &mut Held<'a>, unit: &[Word<'a>]) -> Result<(), AllocError> {
-        let section = said.state.place.section;
-        if let (Section::Passing, Some(word)) = (section, only_word(unit)) {
-            pass_over(&mut said.state, &word);
+    fn take(&self, said: &mut Held<'a>, unit: &[Heard<'a, Value>]) -> Result<(), AllocError> {
+        values_fit_their_places();
+        let Some(last) = last_heard(unit) else {
             return Ok(());
-        }
+        };
         let shape = shape_of(unit);
-        let reference = named(&mut said.state, &shape)?;
-        let told = statement_of(said.alloc, section, reference, &shape)?;
+        let section = said.state.place.section;
+        let reference = named(&mut said.state, shape, unit);
+        let told = statement_of(said.alloc, section, reference, shape, unit)?;
         add_told(&mut said.statements, told)?;
-        move_on(&mut said.state, reference, &shape)
+        move_on(&mut said.state, shape, reference, &last.word)
     }
 
     fn regular(&self)

@@ -1,11 +1,12 @@
 //! The layers of a text, by name.
-ghost use Rattle.std.specs.Prelude.{◌≡◌, ◌↔◌, ◌<◌, [], ◌∷◌, ◌++◌, Contains, IfOk, IsTrue, OnOk, length, map, slice_index_or};
+ghost use Rattle.std.specs.Prelude.{◌≡◌, ◌↔◌, ◌<◌, ◌^◌, [], ◌∷◌, ◌++◌, Contains, IfOk, IsTrue, OnErr, OnOk, length, map, slice_index_or};
+ghost use Rattle.name_table.specs.Numbering.{TakesName};
 ghost use Rattle.lef_tech.specs.Known.{name_of, reference_in};
 ghost use Rattle.lef_tech.specs.declared.known.Known.{Known as Record};
 
 use crate::layer::LayerRef;
 use crate::text::Bytes;
-use name_table::NameTable;
+use name_table::{NameError, NameTable};
 use std::alloc::{AllocError, Global};
 use std::marker::Model;
 
@@ -44,6 +45,20 @@ fn reference_at(known: &[Known<'_>], place: usize) -> Option<LayerRef>
     known[place].reference
 }
 
+/// One more name. A table of names is full with 2^32 - 1 of them, more than a text of 2^28 bytes has.
+pub(crate) fn take_name<'a>(names: &mut NameTable<'a>, name: &'a [u8]) -> Result<(), AllocError>
+    ensures taken { OnOk result (TakesName names.old names.new name.now) }
+    ensures kept { OnErr result (names.new ≡ names.old) }
+    ensures few { length names.new < 2 ^ 32 }
+{
+    let taken = names.number(name);
+    let _count = names.len();
+    match taken {
+        Ok(_) => Ok(()),
+        Err(_) => Err(AllocError),
+    }
+}
+
 impl<'a> Layers<'a> {
     /// No layers.
     pub(crate) fn new(alloc: Global) -> Result<Layers<'a>, AllocError>
@@ -63,29 +78,33 @@ impl<'a> Layers<'a> {
     }
 
     /// Which routing or cut layer has the name.
-    pub(crate) fn reference(&mut self, name: &'a [u8]) -> Result<Option<LayerRef>, AllocError>
+    pub(crate) fn reference(&mut self, name: &'a [u8]) -> Option<LayerRef>
         ensures same { self.new ≡ self.old }
-        ensures is { IfOk result (λ reference. reference ≡ reference_in self.old name.now) }
+        ensures is { result ≡ reference_in self.old name.now }
     {
         if !self.names.contains(name) {
-            return Ok(None);
+            return None;
         }
-        let Ok(number) = self.names.number(name) else {
-            return Err(AllocError);
-        };
-        Ok(reference_at(self.known.as_slice(), number as usize))
+        match self.names.number(name) {
+            Ok(number) => reference_at(self.known.as_slice(), number as usize),
+            Err(NameError::Full) => unreachable!(),
+            Err(NameError::Want) => unreachable!(),
+        }
     }
 
-    /// One more layer.
+    /// One more layer, where its name is new.
     pub(crate) fn add(
         &mut self,
         name: &'a [u8],
         reference: Option<LayerRef>,
     ) -> Result<(), AllocError>
-        ensures { OnOk result (self.new ≡ self.old ++ record { name = name.now; reference = reference } ∷ []) }
+        ensures added { OnOk result ((Contains (map name_of self.old) name.now → ⊥) →
+            self.new ≡ self.old ++ record { name = name.now; reference = reference } ∷ []) }
+        ensures few { length self.new < 2 ^ 32 }
     {
+        let _count = self.names.len();
         if self.names.contains(name) {
-            return Err(AllocError);
+            return Ok(());
         }
         let count = self.known.len();
         let known = Known {
@@ -93,12 +112,10 @@ impl<'a> Layers<'a> {
             reference,
         };
         self.known.push(known)?;
-        match self.names.number(name) {
-            Ok(_) => Ok(()),
-            Err(_) => {
-                self.known.truncate(count);
-                Err(AllocError)
-            }
+        let taken = take_name(&mut self.names, name);
+        if taken.is_err() {
+            self.known.truncate(count);
         }
+        taken
     }
 }

@@ -24,6 +24,7 @@ mod read;
 mod rule;
 mod rules;
 mod section;
+mod shape;
 mod sort;
 mod stack;
 mod state;
@@ -31,6 +32,7 @@ mod statement;
 mod tech;
 mod text;
 mod turn;
+mod value;
 
 pub use error::{TechError, TechKind};
 pub use laws::texts_have_one_tech;

@@ -1,14 +1,12 @@
 //! The numbers of a technology.
-ghost use Rattle.std.specs.Prelude.{◌≡◌, List, ℤ, Result, ℕ, IfOk, Ok, pos};
+ghost use Rattle.std.specs.Prelude.{◌≡◌, ◌<◌, ◌^◌};
 ghost use Rattle.lef_tech.specs.Number.{place_of};
-ghost use Rattle.number_place.specs.declared.place.Refused.{Refused as Reason};
-ghost use Rattle.number_place.specs.Place.{IsNumberAt};
+ghost use Rattle.number_place.specs.Place.{CanRead};
 
 use crate::limits::{
     AREA_LIMIT, CUT_DENSITY_LIMIT, LENGTH_LIMIT, RESISTANCE_LIMIT, WIRE_DENSITY_LIMIT,
 };
-use number_place::{NumberForm, NumberPlace, NumberSign, Refused, number_at};
-use std::alloc::AllocError;
+use number_place::{NumberForm, NumberPlace, NumberSign};
 
 /// What a number stands for.
 #[derive(Clone, Copy, Debug)]
@@ -45,8 +43,10 @@ fn decimal(places: u32, limit: u128) -> NumberPlace
 }
 
 /// The place of a number.
-fn place_of(quantity: Quantity) -> NumberPlace
-    ensures { result ≡ place_of quantity }
+pub(crate) fn place_of(quantity: Quantity) -> NumberPlace
+    ensures is { result ≡ place_of quantity }
+    ensures readable { CanRead result }
+    ensures small { result.limit < 2 ^ 63 }
 {
     match quantity {
         Quantity::Length => decimal(6, LENGTH_LIMIT),
@@ -66,27 +66,5 @@ fn place_of(quantity: Quantity) -> NumberPlace
             limit: MICRONS_LIMIT,
             sign: NumberSign::Positive,
         },
-    }
-}
-
-/// Reads the text as a number of this kind, or says why it is refused.
-pub(crate) fn read_number(quantity: Quantity, text: &[u8]) -> Result<i128, Refused>
-    ensures answer { IsNumberAt (place_of quantity) text.now result }
-    ensures only { (other : Result ℤ Reason) → IsNumberAt (place_of quantity) text.now other → other ≡ result }
-{
-    number_at(place_of(quantity), text)
-}
-
-/// A number of this kind that is not below 0. Where it cannot be read the answer is want of memory, which no clause ties
-/// to anything; it never comes, since the words of a whole statement have shown no fault.
-pub(crate) fn natural(quantity: Quantity, text: &[u8]) -> Result<u64, AllocError>
-    ensures { IfOk result (λ value. IsNumberAt (place_of quantity) text.now (Ok (pos value))) }
-{
-    let Ok(value) = read_number(quantity, text) else {
-        return Err(AllocError);
-    };
-    match u64::try_from(value) {
-        Ok(natural) => Ok(natural),
-        Err(_) => Err(AllocError),
     }
 }

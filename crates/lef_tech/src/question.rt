@@ -4,9 +4,8 @@ ghost use Rattle.lef_tech.specs.Question.{ask_head, ask_top, ask_end, ask_wire_t
 
 use crate::number::Quantity;
 use crate::section::Section;
+use crate::shape::Shape;
 use crate::sort::Sort;
-use crate::text::Shape;
-use crate::turn::is_the;
 
 /// What is asked of the last word of the open unit.
 #[derive(Clone, Copy, Debug)]
@@ -44,11 +43,11 @@ fn ask_head(sort: Sort) -> Question
     }
 }
 
-fn ask_top(shape: &Shape<'_>) -> Question
-    ensures { result ≡ ask_top shape.now }
+fn ask_top(shape: Shape) -> Question
+    ensures { result ≡ ask_top shape }
 {
     match shape {
-        Shape::Two(word, _) => ask_head(word.sort()),
+        Shape::Two(word, _) => ask_head(word),
         _ => Question::Nothing,
     }
 }
@@ -84,15 +83,13 @@ fn ask_wire_four(sort: Sort, third: Sort, last: Sort) -> Question
     }
 }
 
-fn ask_wire(shape: &Shape<'_>) -> Question
-    ensures { result ≡ ask_wire shape.now }
+fn ask_wire(shape: Shape) -> Question
+    ensures { result ≡ ask_wire shape }
 {
     match shape {
-        Shape::Two(word, _) => ask_end(word.sort()),
-        Shape::Three(word, _, last) => ask_wire_three(word.sort(), last.sort()),
-        Shape::Four(word, _, third, last) => {
-            ask_wire_four(word.sort(), third.sort(), last.sort())
-        }
+        Shape::Two(word, _) => ask_end(word),
+        Shape::Three(word, _, last) => ask_wire_three(word, last),
+        Shape::Four(word, _, third, last) => { ask_wire_four(word, third, last) }
         _ => Question::Nothing,
     }
 }
@@ -117,22 +114,22 @@ fn ask_cut_four(sort: Sort, third: Sort) -> Question
     }
 }
 
-fn ask_cut(shape: &Shape<'_>) -> Question
-    ensures { result ≡ ask_cut shape.now }
+fn ask_cut(shape: Shape) -> Question
+    ensures { result ≡ ask_cut shape }
 {
     match shape {
-        Shape::Two(word, _) => ask_end(word.sort()),
-        Shape::Three(word, _, last) => ask_cut_three(word.sort(), last.sort()),
-        Shape::Four(word, _, third, _) => ask_cut_four(word.sort(), third.sort()),
+        Shape::Two(word, _) => ask_end(word),
+        Shape::Three(word, _, last) => ask_cut_three(word, last),
+        Shape::Four(word, _, third, _) => ask_cut_four(word, third),
         _ => Question::Nothing,
     }
 }
 
-fn ask_table(points: Quantity, values: Quantity, shape: &Shape<'_>) -> Question
-    ensures { result ≡ ask_table points values shape.now }
+fn ask_table(points: Quantity, values: Quantity, shape: Shape) -> Question
+    ensures { result ≡ ask_table points values shape }
 {
     match shape {
-        Shape::One(word) => match word.sort() {
+        Shape::One(word) => match word {
             Sort::Semicolon => Question::Nothing,
             _ => Question::Point(points),
         },
@@ -141,11 +138,11 @@ fn ask_table(points: Quantity, values: Quantity, shape: &Shape<'_>) -> Question
     }
 }
 
-fn ask_values(values: Quantity, shape: &Shape<'_>) -> Question
-    ensures { result ≡ ask_values values shape.now }
+fn ask_values(values: Quantity, shape: Shape) -> Question
+    ensures { result ≡ ask_values values shape }
 {
     match shape {
-        Shape::One(word) => match word.sort() {
+        Shape::One(word) => match word {
             Sort::Semicolon => Question::AllValues,
             _ => Question::Value(values),
         },
@@ -163,11 +160,11 @@ fn ask_rule_two(sort: Sort) -> Question
     }
 }
 
-fn ask_rule(shape: &Shape<'_>) -> Question
-    ensures { result ≡ ask_rule shape.now }
+fn ask_rule(shape: Shape) -> Question
+    ensures { result ≡ ask_rule shape }
 {
     match shape {
-        Shape::Two(word, _) => ask_rule_two(word.sort()),
+        Shape::Two(word, _) => ask_rule_two(word),
         _ => Question::Nothing,
     }
 }
@@ -184,16 +181,16 @@ fn ask_wire_part_two(sort: Sort) -> Question
     }
 }
 
-fn ask_wire_part(shape: &Shape<'_>) -> Question
-    ensures { result ≡ ask_wire_part shape.now }
+fn ask_wire_part(shape: Shape) -> Question
+    ensures { result ≡ ask_wire_part shape }
 {
     match shape {
-        Shape::Two(word, _) => ask_wire_part_two(word.sort()),
-        Shape::Three(word, _, _) => match word.sort() {
+        Shape::Two(word, _) => ask_wire_part_two(word),
+        Shape::Three(word, _, _) => match word {
             Sort::Enclosure => Question::Number(Quantity::Length),
             _ => Question::Nothing,
         },
-        Shape::Four(word, _, _, _) => match word.sort() {
+        Shape::Four(word, _, _, _) => match word {
             Sort::Width => Question::Number(Quantity::Length),
             _ => Question::Nothing,
         },
@@ -214,21 +211,21 @@ fn ask_cut_part_two(sort: Sort) -> Question
     }
 }
 
-fn ask_cut_part(shape: &Shape<'_>) -> Question
-    ensures { result ≡ ask_cut_part shape.now }
+fn ask_cut_part(shape: Shape) -> Question
+    ensures { result ≡ ask_cut_part shape }
 {
     match shape {
-        Shape::Two(word, _) => ask_cut_part_two(word.sort()),
-        Shape::Three(word, _, _) => match word.sort() {
+        Shape::Two(word, _) => ask_cut_part_two(word),
+        Shape::Three(word, _, _) => match word {
             Sort::Rect => Question::Number(Quantity::Corner),
             _ => Question::Nothing,
         },
-        Shape::Four(word, _, _, _) => match word.sort() {
+        Shape::Four(word, _, _, _) => match word {
             Sort::Rect => Question::Number(Quantity::Corner),
             Sort::Spacing => Question::Number(Quantity::Length),
             _ => Question::Nothing,
         },
-        Shape::Five(word, _, _, _, _) => match word.sort() {
+        Shape::Five(word, _, _, _, _) => match word {
             Sort::Rect => Question::Number(Quantity::Corner),
             _ => Question::Nothing,
         },
@@ -236,19 +233,19 @@ fn ask_cut_part(shape: &Shape<'_>) -> Question
     }
 }
 
-fn ask_units(shape: &Shape<'_>) -> Question
-    ensures { result ≡ ask_units shape.now }
+fn ask_units(shape: Shape) -> Question
+    ensures { result ≡ ask_units shape }
 {
     match shape {
-        Shape::Two(word, _) => ask_end(word.sort()),
+        Shape::Two(word, _) => ask_end(word),
         Shape::Three(_, _, _) => Question::Microns,
         _ => Question::Nothing,
     }
 }
 
 /// What is asked of the last of these words of a unit of the section.
-pub(crate) fn question_of(section: Section, shape: &Shape<'_>) -> Question
-    ensures { result ≡ question_of section shape.now }
+pub(crate) fn question_of(section: Section, shape: Shape) -> Question
+    ensures { result ≡ question_of section shape }
 {
     match section {
         Section::Top => ask_top(shape),

@@ -1,19 +1,21 @@
-ghost use Rattle.std.specs.Prelude.{◌≡◌, List, IfOk};
+ghost use Rattle.std.specs.Prelude.{◌≡◌, ◌<◌, ◌^◌, List, IfOk, length};
 ghost use Rattle.lef_tech.specs.Format.{ReadsTech};
 ghost use Rattle.lef_tech.specs.Limits.{TechKeeps};
 ghost use Rattle.lef_tech.specs.Record.{tech_of, IsTech};
 ghost use Rattle.lef_tech.specs.inside.Held.{Holds};
+ghost use Rattle.lef_tech.specs.inside.Looks.{StatementsKeep};
 ghost use Rattle.reading.specs.Word.{Token};
 
 use crate::error::TechError;
 use crate::format::TechFormat;
 use crate::held::Held;
-use crate::keeping::keeps_limits;
+use crate::keeping::{is_few, keeps_limits};
 use crate::rules::rules_in;
 use crate::stack::stack_of;
 use crate::statement::Statement;
 use crate::tech::Tech;
 use entry_list::Entries;
+use number_place::values_fit_their_places;
 use reading::{ReadError, read_into};
 use std::alloc::{AllocError, Global};
 use text_lex::Mode;
@@ -44,27 +46,31 @@ pub fn read_tech(alloc: Global, text: &[u8]) -> Result<Tech, TechError>
 /// The technology that has been read.
 fn tech_in(held: Held<'_>) -> Result<Tech, AllocError>
     ensures is { (units : List (List Token)) → Holds units held.entry → IfOk result (IsTech units) }
-    ensures keeps { IfOk result TechKeeps }
+    ensures keeps { (units : List (List Token)) → Holds units held.entry → IfOk result TechKeeps }
 {
+    values_fit_their_places();
     tech_of(held.alloc, &held.statements)
 }
 
-/// The technology of the statements. Where it does not keep its limits the answer is want of memory, which no clause ties
-/// to anything; it never comes, since what a text says keeps them.
+/// The technology of the statements. What no statement says by itself is looked at once more, and where it is not kept the
+/// answer is want of memory, which no clause ties to anything; it never comes, since what a text says keeps it, and no text
+/// of 2^28 bytes has 2^32 statements.
 fn tech_of(alloc: Global, statements: &[Statement]) -> Result<Tech, AllocError>
     ensures is { IfOk result (λ tech. tech ≡ tech_of statements.now) }
-    ensures keeps { IfOk result TechKeeps }
+    ensures keeps { StatementsKeep statements.now → IfOk result TechKeeps }
 {
-    let tech = gathered(alloc, statements)?;
-    if keeps_limits(&tech) {
-        Ok(tech)
-    } else {
-        Err(AllocError)
+    if is_few(statements.len()) {
+        let tech = gathered(alloc, statements)?;
+        if keeps_limits(&tech) {
+            return Ok(tech);
+        }
     }
+    Err(AllocError)
 }
 
 /// The layers and rules of the statements.
 fn gathered(alloc: Global, statements: &[Statement]) -> Result<Tech, AllocError>
+    requires { length statements.now < 2 ^ 32 }
     ensures { IfOk result (λ tech. tech ≡ tech_of statements.now) }
 {
     let stack = stack_of(alloc, statements)?;

@@ -1,5 +1,5 @@
 //! The layers of the statements.
-ghost use Rattle.std.specs.Prelude.{◌≡◌, ◌+◌, ◌<◌, ◌∷◌, IfOk, OnOk, drop, length};
+ghost use Rattle.std.specs.Prelude.{◌≡◌, ◌+◌, ◌<◌, ◌^◌, ◌∷◌, IfOk, OnOk, drop, length};
 ghost use Rattle.lef_tech.specs.Record.{or_zero, layer_by, layer_of, with_layer, layers_of};
 ghost use Rattle.lef_tech.specs.inside.Stack.{AddsLayer, IsStack};
 
@@ -71,29 +71,28 @@ fn layer_of(alloc: Global, name: &Name, body: &[Statement]) -> Result<Option<Any
 }
 
 /// A count of layers, as a layer's number.
-fn number(count: usize) -> Result<u32, AllocError>
-    ensures { IfOk result (λ number. number ≡ count) }
+fn number(count: usize) -> u32
+    requires { count < 2 ^ 32 }
+    ensures { result ≡ count }
 {
-    match u32::try_from(count) {
-        Ok(number) => Ok(number),
-        Err(_) => Err(AllocError),
-    }
+    count as u32
 }
 
 impl Stack {
     /// One more layer, if it is one.
     fn add(&mut self, layer: Option<AnyLayer>) -> Result<(), AllocError>
+        requires { length self.old.wires.items + length self.old.cuts.items < 2 ^ 32 }
         ensures { OnOk result (AddsLayer self.old layer self.new) }
     {
         match layer {
             None => {}
             Some(AnyLayer::Wire(layer)) => {
                 self.order
-                    .push(LayerRef::Routing(number(self.wires.len())?))?;
+                    .push(LayerRef::Routing(number(self.wires.len())))?;
                 self.wires.push(layer)?;
             }
             Some(AnyLayer::Hole(layer)) => {
-                self.order.push(LayerRef::Cut(number(self.cuts.len())?))?;
+                self.order.push(LayerRef::Cut(number(self.cuts.len())))?;
                 self.cuts.push(layer)?;
             }
         }
@@ -125,6 +124,7 @@ fn after(statements: &[Statement], place: usize) -> &[Statement]
 
 /// The layers of the statements.
 pub(crate) fn stack_of(alloc: Global, statements: &[Statement]) -> Result<Stack, AllocError>
+    requires { length statements.now < 2 ^ 32 }
     ensures { IfOk result (λ stack. IsStack (layers_of statements.now) stack) }
 {
     let mut stack = Stack {

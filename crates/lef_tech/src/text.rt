@@ -1,15 +1,11 @@
-//! The words of a unit, as its faults and its meaning look at them.
-ghost use Rattle.std.specs.Prelude.{◌≡◌, IfSome, map};
-ghost use Rattle.lef_statements.specs.Passing.{passing_after};
-ghost use Rattle.lef_statements.specs.Word.{is_word};
-ghost use Rattle.lef_tech.specs.Shape.{shape_of};
-ghost use Rattle.lef_tech.specs.declared.text.Shape.TheVariants.{One};
-ghost use Rattle.lef_tech.specs.Sort.{sort_of};
-ghost use Rattle.reading.specs.Word.{token};
+//! The texts of words.
+ghost use Rattle.std.specs.Prelude.{◌≡◌, map};
+ghost use Rattle.lef_tech.specs.Shape.{text_at};
+ghost use Rattle.reading.specs.Word.{heard_token};
 
-use crate::sort::{Sort, sort_of};
-use lef_statements::{OpenName, Passing, is_word};
-use reading::Word;
+use crate::value::Value;
+use lef_statements::OpenName;
+use reading::Heard;
 use std::marker::Model;
 
 /// A slice of the text: a name, or a number.
@@ -49,111 +45,12 @@ impl<'a> Bytes<'a> {
     }
 }
 
-/// A word of a unit.
-///
-/// A contract sees it as its token.
-#[derive(Debug, Drop)]
-pub(crate) struct Term<'a> {
-    word: Word<'a>,
-}
-
-impl<'a> Model for Term<'a> {
-    ghost use Rattle.reading.specs.Word.{Token, token};
-
-    ghost Value = { Token };
-
-    ghost view = { λ term. token term.word };
-}
-
-impl<'a> Term<'a> {
-    pub(crate) fn new(word: Word<'a>) -> Term<'a>
-        ensures { result ≡ token word.entry }
-    {
-        Term { word }
-    }
-
-    /// The sort of the word.
-    pub(crate) fn sort(&self) -> Sort
-        ensures { result ≡ sort_of self.now }
-    {
-        sort_of(&self.word)
-    }
-
-    /// The bytes of the word.
-    pub(crate) fn text(&self) -> &'a [u8]
-        ensures { result.now ≡ self.now.text }
-    {
-        self.word.text
-    }
-
-    /// Whether it is the bare word of these bytes.
-    pub(crate) fn is(&self, text: &[u8]) -> bool
-        ensures { result ≡ is_word text.now self.now }
-    {
-        is_word(text, &self.word)
-    }
-
-    /// What is passed over after the word.
-    pub(crate) fn passed<'b>(&self, passing: Passing<'b>) -> Option<Passing<'b>>
-        ensures { result ≡ passing_after passing.entry self.now }
-    {
-        passing.after(&self.word)
-    }
-
-    /// The same word once more.
-    pub(crate) fn again(&self) -> Term<'a>
-        ensures { result ≡ self.now }
-    {
-        Term { word: self.word }
-    }
-}
-
-/// The words of a unit, by how many there are. No unit has more than six.
-#[derive(Debug, Drop)]
-pub(crate) enum Shape<'a> {
-    One(Term<'a>),
-    Two(Term<'a>, Term<'a>),
-    Three(Term<'a>, Term<'a>, Term<'a>),
-    Four(Term<'a>, Term<'a>, Term<'a>, Term<'a>),
-    Five(Term<'a>, Term<'a>, Term<'a>, Term<'a>, Term<'a>),
-    Six(Term<'a>, Term<'a>, Term<'a>, Term<'a>, Term<'a>, Term<'a>),
-    Other,
-}
-
-/// The words of a unit.
-pub(crate) fn shape_of<'a>(unit: &[Word<'a>]) -> Shape<'a>
-    ensures { result ≡ shape_of (map token unit.now) }
+/// The text of the word that has so many words of its unit before it, and none where there is no such word.
+pub(crate) fn text_at<'a>(unit: &[Heard<'a, Value>], at: usize) -> &'a [u8]
+    ensures { result.now ≡ text_at (map heard_token unit.now) at }
 {
-    match unit {
-        [a] => Shape::One(Term::new(*a)),
-        [a, b] => Shape::Two(Term::new(*a), Term::new(*b)),
-        [a, b, c] => Shape::Three(Term::new(*a), Term::new(*b), Term::new(*c)),
-        [a, b, c, d] => Shape::Four(Term::new(*a), Term::new(*b), Term::new(*c), Term::new(*d)),
-        [a, b, c, d, e] => Shape::Five(
-            Term::new(*a),
-            Term::new(*b),
-            Term::new(*c),
-            Term::new(*d),
-            Term::new(*e),
-        ),
-        [a, b, c, d, e, f] => Shape::Six(
-            Term::new(*a),
-            Term::new(*b),
-            Term::new(*c),
-            Term::new(*d),
-            Term::new(*e),
-            Term::new(*f),
-        ),
-        _ => Shape::Other,
-    }
-}
-
-/// The word of a unit that has no other.
-pub(crate) fn only_word<'a>(unit: &[Word<'a>]) -> Option<Term<'a>>
-    ensures { IfSome result (λ word. shape_of (map token unit.now) ≡ One word) }
-{
-    match unit {
-        [word] => Some(Term::new(*word)),
-        _ => None,
+    match unit.get(at) {
+        Some(heard) => heard.word.text,
+        None => &[],
     }
 }

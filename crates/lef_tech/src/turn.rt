@@ -5,30 +5,33 @@ ghost use Rattle.lef_tech.specs.Turn.{turn_word, turn_head, turn_top, turn_type,
 
 use crate::layer::LayerRef;
 use crate::section::Section;
+use crate::shape::Shape;
 use crate::sort::Sort;
-use crate::text::{Bytes, Shape, Term};
-use lef_statements::Passing;
 use reading::Numbered;
 
 /// What a whole unit does to the place of the next one.
-#[derive(Debug, Drop)]
-pub(crate) enum Turn<'a> {
+#[derive(Clone, Copy, Debug)]
+pub(crate) enum Turn {
     /// The section goes on.
     Stay,
     /// Another section goes on.
     Go(Section),
-    /// A section with a name begins.
-    Open(Section, Bytes<'a>),
-    /// Something is passed over, and then the section goes on.
-    Pass(Passing<'a>, Section),
+    /// A section begins that has the unit's last word as its name.
+    Open(Section),
+    /// The rest of a statement is passed over, and then the section goes on.
+    Skip(Section),
+    /// A section is passed over that has the unit's last word as its name.
+    SkipSection,
+    /// What another tool has added is passed over.
+    SkipExtension,
     /// The open section is passed over; its last word may be `END`.
-    PassOpen(bool),
+    SkipOpen(bool),
     /// One more word of what is passed over.
-    Word(Term<'a>),
-    /// A table begins with its first point.
-    Table(Section, Bytes<'a>),
+    Word,
+    /// A table begins, whose first point is the unit's last word.
+    Table(Section),
     /// One more point of the table.
-    Point(Bytes<'a>),
+    Point,
     /// The entries of the table begin with the first one.
     Values(Section),
     /// One more entry.
@@ -45,43 +48,43 @@ pub(crate) fn is_the(this: Sort, sort: Sort) -> bool
 }
 
 /// After the first word of a section without a name or of a statement at the top, or after the end of the text.
-fn turn_word<'a>(sort: Sort, text: &'a [u8]) -> Turn<'a>
-    ensures { result ≡ turn_word sort text.now }
+fn turn_word(sort: Sort) -> Turn
+    ensures { result ≡ turn_word sort }
 {
     match sort {
-        Sort::Units => Turn::Open(Section::Units, Bytes::new(text)),
-        Sort::Definitions => Turn::Pass(Passing::Section(Bytes::new(text).open()), Section::Top),
-        Sort::Spacing => Turn::Pass(Passing::Section(Bytes::new(text).open()), Section::Top),
-        Sort::Extension => Turn::Pass(Passing::Extension, Section::Top),
+        Sort::Units => Turn::Open(Section::Units),
+        Sort::Definitions => Turn::SkipSection,
+        Sort::Spacing => Turn::SkipSection,
+        Sort::Extension => Turn::SkipExtension,
         Sort::TextEnd => Turn::Stay,
-        _ => Turn::Pass(Passing::Statement, Section::Top),
+        _ => Turn::Skip(Section::Top),
     }
 }
 
 /// After the head of a section with a name, or after `END LIBRARY`.
-fn turn_head<'a>(sort: Sort, name: &'a [u8]) -> Turn<'a>
-    ensures { result ≡ turn_head sort name.now }
+fn turn_head(sort: Sort) -> Turn
+    ensures { result ≡ turn_head sort }
 {
     match sort {
-        Sort::Layer => Turn::Open(Section::LayerStart, Bytes::new(name)),
-        Sort::ViaRule => Turn::Open(Section::RuleStart, Bytes::new(name)),
+        Sort::Layer => Turn::Open(Section::LayerStart),
+        Sort::ViaRule => Turn::Open(Section::RuleStart),
         Sort::End => Turn::Go(Section::Ended),
-        _ => Turn::Pass(Passing::Section(Bytes::new(name).open()), Section::Top),
+        _ => Turn::SkipSection,
     }
 }
 
-fn turn_top<'a>(shape: &Shape<'a>) -> Turn<'a>
-    ensures { result ≡ turn_top shape.now }
+fn turn_top(shape: Shape) -> Turn
+    ensures { result ≡ turn_top shape }
 {
     match shape {
-        Shape::One(word) => turn_word(word.sort(), word.text()),
-        Shape::Two(word, name) => turn_head(word.sort(), name.text()),
+        Shape::One(word) => turn_word(word),
+        Shape::Two(word, _) => turn_head(word),
         _ => Turn::Stay,
     }
 }
 
 /// After the type of a layer.
-fn turn_type<'a>(sort: Sort) -> Turn<'a>
+fn turn_type(sort: Sort) -> Turn
     ensures { result ≡ turn_type sort }
 {
     match sort {
@@ -90,52 +93,52 @@ fn turn_type<'a>(sort: Sort) -> Turn<'a>
     }
 }
 
-fn turn_start<'a>(shape: &Shape<'a>) -> Turn<'a>
-    ensures { result ≡ turn_start shape.now }
+fn turn_start(shape: Shape) -> Turn
+    ensures { result ≡ turn_start shape }
 {
     match shape {
-        Shape::Two(_, kind) => Turn::PassOpen(is_the(Sort::End, kind.sort())),
-        Shape::Three(_, kind, _) => turn_type(kind.sort()),
+        Shape::Two(_, kind) => Turn::SkipOpen(is_the(Sort::End, kind)),
+        Shape::Three(_, kind, _) => turn_type(kind),
         _ => Turn::Stay,
     }
 }
 
 /// After the words of a statement that this is the last of.
-fn turn_other<'a>(same: Section, sort: Sort) -> Turn<'a>
+fn turn_other(same: Section, sort: Sort) -> Turn
     ensures { result ≡ turn_other same sort }
 {
     if is_the(Sort::Semicolon, sort) {
         Turn::Stay
     } else {
-        Turn::Pass(Passing::Statement, same)
+        Turn::Skip(same)
     }
 }
 
 /// After a statement of a layer whose table is by this word.
-fn turn_layer<'a>(same: Section, by: Sort, table: Section, shape: &Shape<'a>) -> Turn<'a>
-    ensures { result ≡ turn_layer same by table shape.now }
+fn turn_layer(same: Section, by: Sort, table: Section, shape: Shape) -> Turn
+    ensures { result ≡ turn_layer same by table shape }
 {
     match shape {
-        Shape::One(_) => Turn::Pass(Passing::Statement, same),
+        Shape::One(_) => Turn::Skip(same),
         Shape::Two(word, name) => {
-            if is_the(Sort::End, word.sort()) {
+            if is_the(Sort::End, word) {
                 Turn::Go(Section::Top)
             } else {
-                turn_other(same, name.sort())
+                turn_other(same, name)
             }
         }
         Shape::Three(word, _, last) => {
-            if is_the(Sort::Direction, word.sort()) {
+            if is_the(Sort::Direction, word) {
                 Turn::Go(Section::Directed)
             } else {
-                turn_other(same, last.sort())
+                turn_other(same, last)
             }
         }
         Shape::Four(word, _, third, last) => {
-            if is_the(Sort::Current, word.sort()) && is_the(by, third.sort()) {
-                Turn::Table(table, Bytes::new(last.text()))
+            if is_the(Sort::Current, word) && is_the(by, third) {
+                Turn::Table(table)
             } else {
-                turn_other(same, last.sort())
+                turn_other(same, last)
             }
         }
         _ => Turn::Stay,
@@ -143,22 +146,22 @@ fn turn_layer<'a>(same: Section, by: Sort, table: Section, shape: &Shape<'a>) ->
 }
 
 /// After a word of a table among its points.
-fn turn_table<'a>(values: Section, shape: &Shape<'a>) -> Turn<'a>
-    ensures { result ≡ turn_table values shape.now }
+fn turn_table(values: Section, shape: Shape) -> Turn
+    ensures { result ≡ turn_table values shape }
 {
     match shape {
-        Shape::One(word) => Turn::Point(Bytes::new(word.text())),
+        Shape::One(_) => Turn::Point,
         _ => Turn::Values(values),
     }
 }
 
 /// After a word of a table among its entries.
-fn turn_values<'a>(shape: &Shape<'a>) -> Turn<'a>
-    ensures { result ≡ turn_values shape.now }
+fn turn_values(shape: Shape) -> Turn
+    ensures { result ≡ turn_values shape }
 {
     match shape {
         Shape::One(word) => {
-            if is_the(Sort::Semicolon, word.sort()) {
+            if is_the(Sort::Semicolon, word) {
                 Turn::Back
             } else {
                 Turn::Value
@@ -169,21 +172,21 @@ fn turn_values<'a>(shape: &Shape<'a>) -> Turn<'a>
 }
 
 /// After the word that follows `VIARULE name`.
-fn turn_rule_word<'a>(sort: Sort) -> Turn<'a>
+fn turn_rule_word(sort: Sort) -> Turn
     ensures { result ≡ turn_rule_word sort }
 {
     match sort {
         Sort::Generate => Turn::Go(Section::RuleHead),
-        Sort::End => Turn::PassOpen(true),
-        _ => Turn::PassOpen(false),
+        Sort::End => Turn::SkipOpen(true),
+        _ => Turn::SkipOpen(false),
     }
 }
 
-fn turn_rule_start<'a>(shape: &Shape<'a>) -> Turn<'a>
-    ensures { result ≡ turn_rule_start shape.now }
+fn turn_rule_start(shape: Shape) -> Turn
+    ensures { result ≡ turn_rule_start shape }
 {
     match shape {
-        Shape::One(word) => turn_rule_word(word.sort()),
+        Shape::One(word) => turn_rule_word(word),
         _ => Turn::Stay,
     }
 }
@@ -200,14 +203,14 @@ fn part_section(reference: Option<LayerRef>) -> Section
 }
 
 /// After a statement of `UNITS` or of a generate rule.
-fn turn_part<'a>(same: Section, reference: Option<LayerRef>, shape: &Shape<'a>) -> Turn<'a>
-    ensures { result ≡ turn_part same reference shape.now }
+fn turn_part(same: Section, reference: Option<LayerRef>, shape: Shape) -> Turn
+    ensures { result ≡ turn_part same reference shape }
 {
     match shape {
-        Shape::One(_) => Turn::Pass(Passing::Statement, same),
+        Shape::One(_) => Turn::Skip(same),
         Shape::Two(_, _) => Turn::Go(Section::Top),
         Shape::Three(word, _, _) => {
-            if is_the(Sort::Layer, word.sort()) {
+            if is_the(Sort::Layer, word) {
                 Turn::Go(part_section(reference))
             } else {
                 Turn::Stay
@@ -218,15 +221,15 @@ fn turn_part<'a>(same: Section, reference: Option<LayerRef>, shape: &Shape<'a>) 
 }
 
 /// After the first statement that follows `GENERATE`, or after `DEFAULT`.
-fn turn_rule_head<'a>(reference: Option<LayerRef>, shape: &Shape<'a>) -> Turn<'a>
-    ensures { result ≡ turn_rule_head reference shape.now }
+fn turn_rule_head(reference: Option<LayerRef>, shape: Shape) -> Turn
+    ensures { result ≡ turn_rule_head reference shape }
 {
     match shape {
         Shape::One(word) => {
-            if is_the(Sort::Default, word.sort()) {
+            if is_the(Sort::Default, word) {
                 Turn::Go(Section::Rule)
             } else {
-                Turn::Pass(Passing::Statement, Section::Rule)
+                Turn::Skip(Section::Rule)
             }
         }
         _ => turn_part(Section::Rule, reference, shape),
@@ -234,22 +237,18 @@ fn turn_rule_head<'a>(reference: Option<LayerRef>, shape: &Shape<'a>) -> Turn<'a
 }
 
 /// After a word of what is passed over.
-fn turn_passing<'a>(shape: &Shape<'a>) -> Turn<'a>
-    ensures { result ≡ turn_passing shape.now }
+fn turn_passing(shape: Shape) -> Turn
+    ensures { result ≡ turn_passing shape }
 {
     match shape {
-        Shape::One(word) => Turn::Word(word.again()),
+        Shape::One(_) => Turn::Word,
         _ => Turn::Stay,
     }
 }
 
 /// What a whole unit of a section does to the place of the next one.
-pub(crate) fn turn_of<'a>(
-    section: Section,
-    reference: Option<LayerRef>,
-    shape: &Shape<'a>,
-) -> Turn<'a>
-    ensures { result ≡ turn_of section reference shape.now }
+pub(crate) fn turn_of(section: Section, reference: Option<LayerRef>, shape: Shape) -> Turn
+    ensures { result ≡ turn_of section reference shape }
 {
     match section {
         Section::Top => turn_top(shape),

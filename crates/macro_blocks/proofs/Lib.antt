@@ -1,9 +1,11 @@
 pub mod Words
 pub mod Numbers
+pub mod Numbered
 pub mod Keywords
 pub mod Law
-pub mod Plain
+pub mod Shape
 pub mod Showing
+pub mod Fine
 pub mod Taking
 pub mod Limits
 pub mod One

@@ -8,7 +8,7 @@ use Rattle.outside.specs.declared.place.Place.{Place}
 use Rattle.macro_blocks.specs.declared.number.Bad.{Bad}
 use Rattle.macro_blocks.specs.declared.error.Shown.{Shown}
 use Rattle.macro_blocks.specs.declared.error.Shown.TheVariants as kinds
-use Rattle.macro_blocks.specs.Fault.{NoCoordinate, OriginFault, CornerBy, CornerFault, AreCoordinates, IsFirstBad}
+use Rattle.macro_blocks.specs.Fault.{OriginFault, AreCoordinates, IsFirstBad}
 use Rattle.macro_blocks.specs.inside.Held.{IsBad}
 use Rattle.macro_blocks.specs.Number.{coordinate, IsCoordinate, IsRefused}
 use Rattle.macro_blocks.specs.Record.{noted, noted_in}
@@ -134,15 +134,6 @@ noted_long numbers (a ∷ b ∷ c ∷ d ∷ e ∷ f ∷ g ∷ unit) h = refl
 
 -- ## a whole RECT
 
--- It is the first after coordinates.
-pub first_after : (numbers words : List Token) (bad : Bad) → AreCoordinates numbers → IsFirstBad words bad → IsFirstBad (numbers ++ words) bad
-first_after [] words bad h k = k
-first_after (w ∷ ws) words bad h k = inr (h.0, first_after ws words bad h.1 k)
-
-all_after : (numbers words : List Token) → AreCoordinates numbers → AreCoordinates words → AreCoordinates (numbers ++ words)
-all_after [] words h k = k
-all_after (w ∷ ws) words h k = (h.0, all_after ws words h.1 k)
-
 noted_one : (numbers : List Token) (word : Token) → is_number (sort_of word) ≡ true → noted numbers word ≡ numbers ++ word ∷ []
 noted_one numbers word may = ap (λ b. if b then (numbers ++ word ∷ []) else numbers) may
 
@@ -151,20 +142,12 @@ one_more numbers words word = simp append_assoc
 
 module _ (first a b c d stop : Token) (a_may : is_number (sort_of a) ≡ true) (b_may : is_number (sort_of b) ≡ true) (c_may : is_number (sort_of c) ≡ true) (d_may : is_number (sort_of d) ≡ true) where
   -- Four words that stand for numbers are all noted.
-  noted_four : (numbers : List Token) → noted_in numbers (first ∷ a ∷ b ∷ c ∷ d ∷ stop ∷ []) ≡ numbers ++ (a ∷ b ∷ c ∷ d ∷ [])
+  pub noted_four : (numbers : List Token) → noted_in numbers (first ∷ a ∷ b ∷ c ∷ d ∷ stop ∷ []) ≡ numbers ++ (a ∷ b ∷ c ∷ d ∷ [])
   noted_four numbers =
       let one = noted_one numbers a a_may in
       let two = ap (λ z. noted z b) one ∙ (noted_one (numbers ++ a ∷ []) b b_may ∙ one_more numbers (a ∷ []) b) in
       let three = ap (λ z. noted z c) two ∙ (noted_one (numbers ++ a ∷ b ∷ []) c c_may ∙ one_more numbers (a ∷ b ∷ []) c) in
       ap (λ z. noted z d) three ∙ (noted_one (numbers ++ a ∷ b ∷ c ∷ []) d d_may ∙ one_more numbers (a ∷ b ∷ c ∷ []) d)
-
-  pub four_bad : (numbers : List Token) (bad : Bad) → AreCoordinates numbers → IsFirstBad (a ∷ b ∷ c ∷ d ∷ []) bad →
-      IsBad (noted_in numbers (first ∷ a ∷ b ∷ c ∷ d ∷ stop ∷ [])) (Some bad)
-  four_bad numbers bad h k = subst (λ z. IsFirstBad z bad) (sym (noted_four numbers)) (first_after numbers (a ∷ b ∷ c ∷ d ∷ []) bad h k)
-
-  pub four_fine : (numbers : List Token) → AreCoordinates numbers → AreCoordinates (a ∷ b ∷ c ∷ d ∷ []) →
-      IsBad (noted_in numbers (first ∷ a ∷ b ∷ c ∷ d ∷ stop ∷ [])) None
-  four_fine numbers h k = subst (λ z. AreCoordinates z) (sym (noted_four numbers)) (all_after numbers (a ∷ b ∷ c ∷ d ∷ []) h k)
 
 -- ## an ORIGIN
 
@@ -193,14 +176,3 @@ pub origin_other : (has_origin : Bool) (word : Token) (value : ℤ) → IsCoordi
     OriginFault has_origin word kinds.Origin
 origin_other false word value is other first = inr (value, is, other, refl)
 origin_other true word value is other first = absurd (let t : true ≡ false = first in cc)
-
--- ## a RECT's number
-
-corner_by : (known may : Bool) (word : Token) (kind : Option Shown) → known ≡ true → is_number (sort_of word) ≡ may → Finds (CornerBy may word) kind →
-    Finds (CornerFault known word) kind
-corner_by true may word kind there is h = subst (λ z. Finds (CornerBy z word) kind) (sym is) h
-corner_by false may word kind there is h = absurd (let t : false ≡ true = there in cc)
-
-pub corner_number : (known : Bool) (word : Token) (kind : Option Shown) → known ≡ true → is_number (sort_of word) ≡ true → Finds (NoCoordinate word) kind →
-    Finds (CornerFault known word) kind
-corner_number known word kind there is h = corner_by known true word kind there is h

@@ -1,50 +1,22 @@
 -- Units by the number of their words.
-use Rattle.std.proofs.Common.{◌≡◌, false, sym, ◌∙◌, ◌<◌, ◌≤◌, List, [], ◌∷◌, Option, length, get_or, refl, ap, arith}
+use Rattle.std.proofs.Common.{◌≡◌, false, sym, ◌∙◌, ◌<◌, ◌≤◌, List, [], ◌∷◌, Option, length, refl, ap, arith}
 use Rattle.macro_blocks.specs.declared.section.Section.{Section}
 use Rattle.macro_blocks.specs.declared.standing.OpenPin.{OpenPin}
 use Rattle.macro_blocks.specs.declared.standing.Standing.{Standing}
 use Rattle.macro_blocks.specs.Record.{act_of, act_of_more}
 use Rattle.macro_blocks.specs.declared.section.Section.TheVariants as places
 use Rattle.macro_blocks.specs.declared.sort.Sort.{Sort}
+use Rattle.macro_blocks.specs.declared.sort.Sort.TheVariants.{Macro}
 use Rattle.macro_blocks.specs.Standing.{after_more, after_words, is_rect, last_in, section_in, with_last}
-use Rattle.reading.specs.declared.word.Word.{Word}
+use Rattle.macro_blocks.specs.declared.value.Value.{Value}
+use Rattle.macro_blocks.specs.declared.value.Value.TheVariants.{First}
+use Rattle.reading.specs.declared.word.Heard.{Heard}
 use Rattle.reading.specs.Word.{Token, last_of}
 use Rattle.reading.specs.declared.word.Form.TheVariants.{Bare}
 
-abbrev pub no_word : Word
-no_word = record { text = record { ref_ptr = (0, 0); now = [] }; place = record { line = 0; word = 0 }; form = Bare }
-
-pub no_words : (xs : List Word) → length xs < 1 → xs ≡ []
-no_words [] h = refl
-no_words (x ∷ xs) h = absurd (omega arith)
-
-pub one_word : (xs : List Word) → 1 ≤ length xs → length xs < 2 → xs ≡ get_or xs 0 no_word ∷ []
-one_word [] h k = absurd (omega arith)
-one_word (x ∷ xs) h k = ap (λ z. x ∷ z) (no_words xs (omega arith))
-
-pub two_words : (xs : List Word) → 2 ≤ length xs → length xs < 3 → xs ≡ get_or xs 0 no_word ∷ get_or xs 1 no_word ∷ []
-two_words [] h k = absurd (omega arith)
-two_words (x ∷ xs) h k = ap (λ z. x ∷ z) (one_word xs (omega arith) (omega arith))
-
-pub three_words : (xs : List Word) → 3 ≤ length xs → length xs < 4 →
-    xs ≡ get_or xs 0 no_word ∷ get_or xs 1 no_word ∷ get_or xs 2 no_word ∷ []
-three_words [] h k = absurd (omega arith)
-three_words (x ∷ xs) h k = ap (λ z. x ∷ z) (two_words xs (omega arith) (omega arith))
-
-pub four_words : (xs : List Word) → 4 ≤ length xs → length xs < 5 →
-    xs ≡ get_or xs 0 no_word ∷ get_or xs 1 no_word ∷ get_or xs 2 no_word ∷ get_or xs 3 no_word ∷ []
-four_words [] h k = absurd (omega arith)
-four_words (x ∷ xs) h k = ap (λ z. x ∷ z) (three_words xs (omega arith) (omega arith))
-
-pub five_words : (xs : List Word) → 5 ≤ length xs → length xs < 6 →
-    xs ≡ get_or xs 0 no_word ∷ get_or xs 1 no_word ∷ get_or xs 2 no_word ∷ get_or xs 3 no_word ∷ get_or xs 4 no_word ∷ []
-five_words [] h k = absurd (omega arith)
-five_words (x ∷ xs) h k = ap (λ z. x ∷ z) (four_words xs (omega arith) (omega arith))
-
-pub six_words : (xs : List Word) → 6 ≤ length xs → length xs < 7 →
-    xs ≡ get_or xs 0 no_word ∷ get_or xs 1 no_word ∷ get_or xs 2 no_word ∷ get_or xs 3 no_word ∷ get_or xs 4 no_word ∷ get_or xs 5 no_word ∷ []
-six_words [] h k = absurd (omega arith)
-six_words (x ∷ xs) h k = ap (λ z. x ∷ z) (five_words xs (omega arith) (omega arith))
+-- The default of a slice's accesses.
+abbrev pub no_word : Heard Value
+no_word = record { word = record { text = record { ref_ptr = (0, 0); now = [] }; place = record { line = 0; word = 0 }; form = Bare }; value = First Macro }
 
 -- Fewer words than six are no RECT, and neither are more.
 pub few_words : (unit : List Token) → length unit < 6 → false ≡ is_rect unit

@@ -1,3 +1,4 @@
-pub mod Held
 pub mod Number
+pub mod Value
+pub mod Held
 pub mod Fault

@@ -3,12 +3,13 @@ ghost use Rattle.std.specs.Prelude.{◌≡◌, None, map};
 ghost use Rattle.macro_blocks.specs.Record.{ends_pin, act_of_pin, ends_port, act_of_one, act_of_two, act_of_more, act_of};
 ghost use Rattle.macro_blocks.specs.Standing.{is_own};
 ghost use Rattle.macro_blocks.specs.Sort.{sort_of};
-ghost use Rattle.reading.specs.Word.{token};
+ghost use Rattle.reading.specs.Word.{token, heard_token};
 
 use crate::section::Section;
 use crate::sort::{Sort, sort_of};
 use crate::standing::{OpenPin, is_own};
-use reading::Word;
+use crate::value::Value;
+use reading::{Heard, Word};
 
 /// What a unit does to what is said.
 #[derive(Clone, Copy, Debug)]
@@ -114,13 +115,13 @@ fn act_of_more(section: Section) -> Act
 }
 
 /// What a unit does in this section.
-pub(crate) fn act_of(section: Section, pin: &Option<OpenPin<'_>>, unit: &[Word<'_>]) -> Act
-    ensures { result ≡ act_of section pin.now (map token unit.now) }
+pub(crate) fn act_of(section: Section, pin: &Option<OpenPin<'_>>, unit: &[Heard<'_, Value>]) -> Act
+    ensures { result ≡ act_of section pin.now (map heard_token unit.now) }
 {
     match unit {
         [] => Act::Nothing,
-        [word] => act_of_one(section, word, pin),
-        [first, second] => act_of_two(section, sort_of(first), second, pin),
+        [word] => act_of_one(section, &word.word, pin),
+        [first, second] => act_of_two(section, sort_of(&first.word), &second.word, pin),
         _ => act_of_more(section),
     }
 }

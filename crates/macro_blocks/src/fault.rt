@@ -1,25 +1,33 @@
-//! The faults that the words of a unit show.
-ghost use Rattle.std.specs.Prelude.{◌≡◌, List, map, true, IsTrue};
-ghost use Rattle.fixed_decimal.specs.declared.error.DecimalError.{DecimalError as Reason};
+//! What the words of a unit say, and the faults that they show.
+ghost use Rattle.std.specs.Prelude.{◌≡◌, true, List};
 ghost use Rattle.macro_blocks.specs.Fault.{Misplaced, Unless, NoCoordinate, OriginFault, CornerFault, EarlierFault, UseFault, UnfitFault, is_supply, StrayFault, FirstFault, SecondFault, ThirdFault, LaterFault, StopFault};
-ghost use Rattle.macro_blocks.specs.Number.{IsRefused};
-ghost use Rattle.number_place.specs.declared.place.Refused.TheVariants.{Number};
+ghost use Rattle.macro_blocks.specs.Rule.{is_name as name_sort, is_number as number_sort};
 ghost use Rattle.macro_blocks.specs.Sort.{the, sort_of};
 ghost use Rattle.macro_blocks.specs.Standing.{is_known};
-ghost use Rattle.macro_blocks.specs.declared.standing.Standing.{Standing as There};
+ghost use Rattle.macro_blocks.specs.inside.Fault.{value_or};
 ghost use Rattle.macro_blocks.specs.inside.Held.{IsBad};
-ghost use Rattle.macro_blocks.specs.inside.Fault.{IsFineIn};
-ghost use Rattle.reading.specs.Fault.{Finds};
+ghost use Rattle.macro_blocks.specs.inside.Value.{SaysPlace, SaysSecond, SaysLater, first_of};
+ghost use Rattle.reading.specs.Fault.{Finds, FindsValue};
 ghost use Rattle.reading.specs.Word.{Token, token};
 
 use crate::error::Shown;
-use crate::number::{Bad, coordinate_of, is_number};
+use crate::number::{Bad, coordinate_of};
 use crate::section::Section;
-use crate::sort::{Sort, sort_of};
-use crate::standing::{Standing, is_known, is_name, is_own, is_stop};
-use fixed_decimal::is_short;
+use crate::sort::Sort;
+use crate::standing::{Standing, is_known, is_own};
+use crate::value::Value;
 use number_place::{texts_have_one_number, values_fit_their_places};
 use reading::Word;
+
+/// The value, where no fault is shown.
+fn value_or(value: Value, fault: Option<Shown>) -> Result<Value, Shown>
+    ensures { result ≡ value_or value fault }
+{
+    match fault {
+        Some(shown) => Err(shown),
+        None => Ok(value),
+    }
+}
 
 /// Why a word that fits or not is refused.
 fn unless(fits: bool) -> Option<Shown>
@@ -33,16 +41,6 @@ fn misplaced(known: bool, fits: bool) -> Option<Shown>
     ensures { Finds (Misplaced known fits) result }
 {
     if known { unless(fits) } else { None }
-}
-
-/// Why the word is no coordinate.
-fn no_coordinate(word: &Word<'_>) -> Option<Shown>
-    ensures { Finds (NoCoordinate (token word.now)) result }
-{
-    match coordinate_of(word) {
-        Ok(_) => None,
-        Err(error) => Some(Shown::Number(error)),
-    }
 }
 
 /// Why a word of an ORIGIN is refused.
@@ -65,17 +63,61 @@ fn origin_fault(has_origin: bool, word: &Word<'_>) -> Option<Shown>
     }
 }
 
-/// Why a word in the place of a RECT's number is refused.
-fn corner_fault(known: bool, word: &Word<'_>) -> Option<Shown>
-    ensures { Finds (CornerFault known (token word.now)) result }
+/// Whether a word of this sort stands for a number where one is asked.
+fn is_number(sort: Sort) -> bool
+    ensures { result ≡ number_sort sort }
 {
-    if !known {
-        return None;
+    match sort {
+        Sort::Semicolon | Sort::Bracket | Sort::TextEnd => false,
+        _ => true,
     }
-    if is_number(word) {
-        no_coordinate(word)
+}
+
+/// Whether a word of this sort is a name.
+fn is_name(sort: Sort) -> bool
+    ensures { result ≡ name_sort sort }
+{
+    match sort {
+        Sort::Semicolon | Sort::Quoted | Sort::TextEnd => false,
+        _ => true,
+    }
+}
+
+/// Whether a word of this sort is `;`.
+fn is_stop(sort: Sort) -> bool
+    ensures { result ≡ the Sort.Semicolon sort }
+{
+    matches!(sort, Sort::Semicolon)
+}
+
+/// What a word that stands for a number says in the place of a RECT's number, or why it is refused.
+fn number_value(known: bool, word: &Word<'_>) -> Result<Value, Shown>
+    ensures { number_sort (sort_of (token word.now)) ≡ true →
+        FindsValue (CornerFault known (token word.now)) (SaysPlace (token word.now)) result }
+{
+    let error = match coordinate_of(word) {
+        Ok(value) => return Ok(Value::Coordinate(value)),
+        Err(error) => error,
+    };
+    if known {
+        Err(Shown::Number(error))
     } else {
-        Some(Shown::Syntax)
+        Ok(Value::Refused(error))
+    }
+}
+
+/// What a word of this sort says in the place of a RECT's number, or why it is refused.
+fn corner_value(known: bool, word: &Word<'_>, sort: Sort) -> Result<Value, Shown>
+    ensures { sort ≡ sort_of (token word.now) →
+        FindsValue (CornerFault known (token word.now)) (SaysPlace (token word.now)) result }
+{
+    if is_number(sort) {
+        return number_value(known, word);
+    }
+    if known {
+        Err(Shown::Syntax)
+    } else {
+        Ok(Value::Nothing)
     }
 }
 
@@ -134,31 +176,47 @@ fn unfit_fault(supply: bool, after_use: bool, bad: Option<Bad>) -> Option<Shown>
     }
 }
 
-/// Why the first word of a unit is refused in a pin, a port or obstructions.
-fn stray_fault(standing: &Standing<'_>, first: &Word<'_>) -> Option<Shown>
-    ensures { Finds (StrayFault (is_known standing.now.pin) (sort_of (token first.now))) result }
+/// Why a first word of this sort is refused in a pin, a port or obstructions.
+fn stray_fault(standing: &Standing<'_>, first: Sort) -> Option<Shown>
+    ensures { Finds (StrayFault (is_known standing.now.pin) first) result }
 {
-    match sort_of(first) {
+    match first {
         Sort::Semicolon => misplaced(is_known(&standing.pin), false),
         _ => None,
     }
 }
 
-/// Why the first word of a unit is refused.
-pub(crate) fn first_fault(
+/// Why a first word of this sort is refused.
+fn first_fault(
     section: Section,
     standing: &Standing<'_>,
     bad: Option<Bad>,
-    first: &Word<'_>,
+    first: Sort,
 ) -> Option<Shown>
     ensures { (numbers : List Token) → IsBad numbers bad →
-        Finds (FirstFault section standing.now numbers (sort_of (token first.now))) result }
+        Finds (FirstFault section standing.now numbers first) result }
 {
     match section {
         Section::Pin | Section::Port | Section::Layered => stray_fault(standing, first),
-        Section::Unfit => unfit_fault(is_supply(sort_of(first)), is_use(standing.last), bad),
+        Section::Unfit => unfit_fault(is_supply(first), is_use(standing.last), bad),
         _ => None,
     }
+}
+
+/// What a first word of this sort says, or why it is refused.
+pub(crate) fn first_value(
+    section: Section,
+    standing: &Standing<'_>,
+    bad: Option<Bad>,
+    first: Sort,
+) -> Result<Value, Shown>
+    ensures { (numbers : List Token) → IsBad numbers bad →
+        FindsValue (FirstFault section standing.now numbers first) (λ value. first_of value ≡ first) result }
+{
+    value_or(
+        Value::First(first),
+        first_fault(section, standing, bad, first),
+    )
 }
 
 /// Why the second word of a pin's unit is refused.
@@ -167,14 +225,15 @@ fn pin_fault(
     bad: Option<Bad>,
     first: Sort,
     second: &Word<'_>,
+    sort: Sort,
 ) -> Option<Shown>
-    ensures { (numbers : List Token) → IsBad numbers bad →
+    ensures { (numbers : List Token) → sort ≡ sort_of (token second.now) → IsBad numbers bad →
         Finds (SecondFault Section.Pin standing.now numbers first (token second.now)) result }
 {
     let known = is_known(&standing.pin);
     match first {
         Sort::End => misplaced(known, is_own(&standing.pin, second)),
-        Sort::Use => use_fault(is_supply(sort_of(second)), known, bad),
+        Sort::Use => use_fault(is_supply(sort), known, bad),
         _ => None,
     }
 }
@@ -191,128 +250,108 @@ fn macro_fault(standing: &Standing<'_>, first: Sort, second: &Word<'_>) -> Optio
     }
 }
 
-/// Why the second word is refused after a first word of this sort in a port or in obstructions.
-fn layered_fault(standing: &Standing<'_>, first: Sort, second: &Word<'_>) -> Option<Shown>
-    ensures { (numbers : List Token) →
-        Finds (SecondFault Section.Layered standing.now numbers first (token second.now)) result }
+/// Why a second word of this sort is refused in a port or in obstructions before any LAYER.
+fn port_fault(standing: &Standing<'_>, first: Sort, sort: Sort) -> Option<Shown>
+    ensures { (numbers : List Token) (second : Token) → sort ≡ sort_of second →
+        Finds (SecondFault Section.Port standing.now numbers first second) result }
 {
     match first {
-        Sort::Layer => misplaced(is_known(&standing.pin), is_name(second)),
-        Sort::Rect => corner_fault(is_known(&standing.pin), second),
+        Sort::Layer => misplaced(is_known(&standing.pin), is_name(sort)),
         _ => None,
     }
 }
 
-/// The same before any LAYER.
-fn port_fault(standing: &Standing<'_>, first: Sort, second: &Word<'_>) -> Option<Shown>
-    ensures { (numbers : List Token) →
-        Finds (SecondFault Section.Port standing.now numbers first (token second.now)) result }
+/// What the second word says in a port or in obstructions after a LAYER, or why it is refused.
+fn layered_value(
+    standing: &Standing<'_>,
+    first: Sort,
+    second: &Word<'_>,
+    sort: Sort,
+) -> Result<Value, Shown>
+    ensures { (numbers : List Token) → sort ≡ sort_of (token second.now) →
+        FindsValue (SecondFault Section.Layered standing.now numbers first (token second.now))
+        (SaysSecond Section.Layered first (token second.now)) result }
 {
+    let known = is_known(&standing.pin);
     match first {
-        Sort::Layer => misplaced(is_known(&standing.pin), is_name(second)),
-        _ => None,
+        Sort::Layer => value_or(Value::Nothing, misplaced(known, is_name(sort))),
+        Sort::Rect => corner_value(known, second, sort),
+        _ => Ok(Value::Nothing),
     }
 }
 
-/// Why the second word of a unit is refused.
-pub(crate) fn second_fault(
+/// What the second word of a unit says, or why it is refused.
+pub(crate) fn second_value(
     section: Section,
     standing: &Standing<'_>,
     bad: Option<Bad>,
     first: Sort,
     second: &Word<'_>,
-) -> Option<Shown>
-    ensures { (numbers : List Token) → IsBad numbers bad →
-        Finds (SecondFault section standing.now numbers first (token second.now)) result }
+    sort: Sort,
+) -> Result<Value, Shown>
+    ensures { (numbers : List Token) → sort ≡ sort_of (token second.now) → IsBad numbers bad →
+        FindsValue (SecondFault section standing.now numbers first (token second.now))
+        (SaysSecond section first (token second.now)) result }
 {
     match section {
-        Section::Macro => macro_fault(standing, first, second),
-        Section::Pin => pin_fault(standing, bad, first, second),
-        Section::Port => port_fault(standing, first, second),
-        Section::Layered => layered_fault(standing, first, second),
-        _ => None,
+        Section::Macro => value_or(Value::Nothing, macro_fault(standing, first, second)),
+        Section::Pin => value_or(
+            Value::Nothing,
+            pin_fault(standing, bad, first, second, sort),
+        ),
+        Section::Port => value_or(Value::Nothing, port_fault(standing, first, sort)),
+        Section::Layered => layered_value(standing, first, second, sort),
+        _ => Ok(Value::Nothing),
     }
 }
 
-/// Why the third word of a unit is refused.
-pub(crate) fn third_fault(
+/// What the third word of a unit says, or why it is refused.
+pub(crate) fn third_value(
     section: Section,
     standing: &Standing<'_>,
     third: &Word<'_>,
-) -> Option<Shown>
-    ensures { Finds (ThirdFault section standing.now (token third.now)) result }
+    sort: Sort,
+) -> Result<Value, Shown>
+    ensures { sort ≡ sort_of (token third.now) →
+        FindsValue (ThirdFault section standing.now (token third.now)) (SaysLater section (token third.now)) result }
 {
     match section {
-        Section::Macro => origin_fault(standing.has_origin, third),
-        Section::Layered => corner_fault(is_known(&standing.pin), third),
-        _ => None,
+        Section::Macro => value_or(Value::Nothing, origin_fault(standing.has_origin, third)),
+        Section::Layered => corner_value(is_known(&standing.pin), third, sort),
+        _ => Ok(Value::Nothing),
     }
 }
 
-/// Why a later number of a RECT is refused.
-pub(crate) fn later_fault(
+/// What a later number of a RECT says, or why it is refused.
+pub(crate) fn later_value(
     section: Section,
     standing: &Standing<'_>,
     later: &Word<'_>,
-) -> Option<Shown>
-    ensures { Finds (LaterFault section standing.now (token later.now)) result }
+    sort: Sort,
+) -> Result<Value, Shown>
+    ensures { sort ≡ sort_of (token later.now) →
+        FindsValue (LaterFault section standing.now (token later.now)) (SaysLater section (token later.now)) result }
 {
     match section {
-        Section::Layered => corner_fault(is_known(&standing.pin), later),
-        _ => None,
+        Section::Layered => corner_value(is_known(&standing.pin), later, sort),
+        _ => Ok(Value::Nothing),
     }
 }
 
-/// Why the word after a RECT's numbers is refused.
-pub(crate) fn stop_fault(
+/// What a word of this sort after a RECT's numbers says, or why it is refused.
+pub(crate) fn stop_value(
     section: Section,
     standing: &Standing<'_>,
-    stop: &Word<'_>,
-) -> Option<Shown>
-    ensures { Finds (StopFault section standing.now (token stop.now)) result }
+    sort: Sort,
+) -> Result<Value, Shown>
+    ensures { (stop : Token) → sort ≡ sort_of stop →
+        FindsValue (StopFault section standing.now stop) (λ value. Unit {0}) result }
 {
     match section {
-        Section::Layered => misplaced(is_known(&standing.pin), is_stop(stop)),
-        _ => None,
-    }
-}
-
-/// So many digits before its point a coordinate may have, whatever they are.
-const WHOLE: usize = 5;
-
-/// Whether the word is a bare word that is no keyword, and plainly a coordinate: it has few digits. Its value is not asked.
-fn is_plain_coordinate(word: &Word<'_>) -> bool
-    ensures bare { IsTrue result → sort_of (token word.now) ≡ Sort.Other }
-    ensures fine { IsTrue result → (error : Reason) → IsRefused (token word.now) (Number error) → ⊥ }
-{
-    texts_have_one_number();
-    matches!(sort_of(word), Sort::Other) && is_short(word.text, WHOLE, 6)
-}
-
-/// Whether it is plain that the last word of a unit after a LAYER shows no fault.
-fn is_fine_after_layer(unit: &[Word<'_>]) -> bool
-    ensures { IsTrue result → (standing : There) (numbers : List Token) →
-        IsFineIn Section.Layered standing numbers (map token unit.now) }
-{
-    match unit {
-        [first] => !is_stop(first),
-        [_, word] => is_plain_coordinate(word),
-        [_, _, word] => is_plain_coordinate(word),
-        [_, _, _, word] => is_plain_coordinate(word),
-        [_, _, _, _, word] => is_plain_coordinate(word),
-        [_, _, _, _, _, stop] => is_stop(stop),
-        _ => false,
-    }
-}
-
-/// Whether it is plain that the last word of a unit shows no fault. Where it is not, each fault has to be looked for.
-pub(crate) fn is_fine(section: Section, unit: &[Word<'_>]) -> bool
-    ensures { IsTrue result → (standing : There) (numbers : List Token) →
-        IsFineIn section standing numbers (map token unit.now) }
-{
-    match section {
-        Section::Passed => true,
-        Section::Layered => is_fine_after_layer(unit),
-        _ => false,
+        Section::Layered => value_or(
+            Value::Nothing,
+            misplaced(is_known(&standing.pin), is_stop(sort)),
+        ),
+        _ => Ok(Value::Nothing),
     }
 }

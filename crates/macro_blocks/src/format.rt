@@ -1,50 +1,25 @@
 //! The text of blocks as a format.
-ghost use Rattle.std.specs.Prelude.{◌≡◌, List, map};
+ghost use Rattle.std.specs.Prelude.{◌≡◌};
 ghost use Rattle.macro_blocks.specs.Format.{format};
 ghost use Rattle.macro_blocks.specs.Rule.{pattern};
 ghost use Rattle.macro_blocks.specs.Sort.{all_sorts};
 ghost use Rattle.macro_blocks.specs.inside.Held.{Holds};
-ghost use Rattle.reading.specs.Grammar.{IsRegular, Shows};
-ghost use Rattle.reading.specs.Word.{Token, token};
+ghost use Rattle.macro_blocks.specs.inside.Value.{says};
+ghost use Rattle.reading.specs.Grammar.{IsRegular};
 
 use crate::error::Shown;
-use crate::fault::{first_fault, is_fine, later_fault, second_fault, stop_fault, third_fault};
+use crate::fault::{first_value, later_value, second_value, stop_value, third_value};
 use crate::held::Held;
 use crate::rule::rule;
 use crate::section::Section;
 use crate::sort::{Sort, sort_of};
+use crate::value::Value;
 use number_place::texts_have_one_number;
-use reading::{Found, Grammar, Rule, Word, found_at};
+use reading::{Found, Grammar, Heard, Rule, Word, told_at};
 use std::alloc::AllocError;
 
 /// The format of the text of blocks, which depends on nothing but the text.
 pub(crate) struct BlocksFormat;
-
-/// The fault that the last word of a unit shows.
-// Most words show none plainly, and are not brought here.
-#[inline(never)]
-fn shown_by<'a>(said: &Held<'a>, unit: &[Word<'a>]) -> Option<Found<Shown>>
-    ensures { (units : List (List Token)) → Holds units said.now → Shows format units (map token unit.now) result }
-{
-    let section = said.standing.section();
-    let standing = &said.standing;
-    let bad = said.said.bad;
-    match unit {
-        [] => None,
-        [first] => found_at(0, first_fault(section, standing, bad, first)),
-        [first, second] => {
-            found_at(
-                1,
-                second_fault(section, standing, bad, sort_of(first), second),
-            )
-        }
-        [_, _, third] => found_at(2, third_fault(section, standing, third)),
-        [_, _, _, later] => found_at(3, later_fault(section, standing, later)),
-        [_, _, _, _, later] => found_at(4, later_fault(section, standing, later)),
-        [_, _, _, _, _, stop] => found_at(5, stop_fault(section, standing, stop)),
-        _ => None,
-    }
-}
 
 impl<'a> Grammar<'a> for BlocksFormat {
     type Sort = Sort;
@@ -55,17 +30,38 @@ impl<'a> Grammar<'a> for BlocksFormat {
 
     type Kind = Shown;
 
+    type Value = Value;
+
     ghost format = { λ blocks. format };
 
     ghost pattern = { pattern };
 
+    ghost says = { λ blocks units. says units };
+
     ghost holds = { λ blocks held units. Holds units held };
 
-    fn fault(&self, said: &Held<'a>, unit: &[Word<'a>]) -> Option<Found<Shown>> {
-        if is_fine(said.standing.section(), unit) {
-            return None;
+    fn hear(
+        &self,
+        said: &Held<'a>,
+        before: &[Heard<'a, Value>],
+        word: &Word<'a>,
+        sort: Sort,
+    ) -> Result<Value, Found<Shown>> {
+        let section = said.standing.section();
+        let standing = &said.standing;
+        let bad = said.said.bad;
+        match before {
+            [] => told_at(0, first_value(section, standing, bad, sort)),
+            [first] => told_at(
+                1,
+                second_value(section, standing, bad, first.value.first(), word, sort),
+            ),
+            [_, _] => told_at(2, third_value(section, standing, word, sort)),
+            [_, _, _] => told_at(3, later_value(section, standing, word, sort)),
+            [_, _, _, _] => told_at(4, later_value(section, standing, word, sort)),
+            [_, _, _, _, _] => told_at(5, stop_value(section, standing, sort)),
+            _ => Ok(Value::Nothing),
         }
-        shown_by(said, unit)
     }
 
     fn sort(&self, _said: &Held<'a>, word: &Word<'a>) -> Sort {
@@ -84,7 +80,7 @@ impl<'a> Grammar<'a> for BlocksFormat {
         said.standing.section().is_ended()
     }
 
-    fn take(&self, said: &mut Held<'a>, unit: &[Word<'a>]) -> Result<(), AllocError> {
+    fn take(&self, said: &mut Held<'a>, unit: &[Heard<'a, Value>]) -> Result<(), AllocError> {
         said.take(unit)
     }
 

@@ -1,23 +1,31 @@
 //! What has been read of the text of blocks.
 //!
-//! Four words that stand for numbers stand in a whole RECT, and none of what a pin or obstructions end with is refused. Where it
-//! could be otherwise all the same, the answer is want of memory, which no clause ties to anything; it never comes.
-ghost use Rattle.std.specs.Prelude.{◌≡◌, List, [], ◌∷◌, ◌++◌, None, true, OnOk, IfOk, map};
+//! The words of a whole unit come with what they say, so that no number is read here, and nothing but an allocation can
+//! fail.
+ghost use Rattle.std.specs.Prelude.{◌≡◌, List, [], ◌∷◌, ◌++◌, None, OnOk, IfOk, map};
 ghost use Rattle.std.specs.Int.{int_min, int_max};
-ghost use Rattle.macro_blocks.specs.Record.{nothing_said};
-ghost use Rattle.macro_blocks.specs.Standing.{is_rect, pin_name};
+ghost use Rattle.macro_blocks.specs.Fault.{AreCoordinates};
+ghost use Rattle.macro_blocks.specs.Record.{nothing_said, noted_in, second_text};
+ghost use Rattle.macro_blocks.specs.Standing.{pin_name};
+ghost use Rattle.macro_blocks.specs.declared.value.Value.{Value as Says};
+ghost use Rattle.macro_blocks.specs.Format.{format};
+ghost use Rattle.macro_blocks.specs.inside.Value.{says};
+ghost use Rattle.reading.specs.Grammar.{AreHeard, IsTaken};
+ghost use Rattle.reading.specs.declared.word.Heard.{Heard as Said};
 ghost use Rattle.macro_blocks.specs.declared.standing.Standing.{Standing as There};
 ghost use Rattle.macro_blocks.specs.inside.Held.{Tells, Holds, Leads};
-ghost use Rattle.reading.specs.Word.{Token, token};
+ghost use Rattle.reading.specs.Word.{Token, heard_token};
 
 use crate::act::{Act, act_of};
 use crate::label::Label;
-use crate::number::{Bad, Corners, are_numbers, bad_in, corners_at};
+use crate::number::{Bad, Corners, bad_in, corners_of};
 use crate::record::{BlockMacro, BlockPin, BlockRect};
-use crate::standing::{Standing, is_rect, pin_name};
+use crate::standing::{Standing, pin_name};
+use crate::value::Value;
 use entry_list::Entries;
+use number_place::texts_have_one_number;
 use outside::Name;
-use reading::Word;
+use reading::Heard;
 use std::alloc::{AllocError, Global};
 use std::mem;
 
@@ -124,63 +132,66 @@ fn macro_of(
     })
 }
 
+/// The second word of a unit.
+fn second_text<'a>(unit: &[Heard<'a, Value>]) -> Label<'a>
+    ensures { result ≡ second_text (map heard_token unit.now) }
+{
+    match unit {
+        [] => Label::new(b""),
+        [_] => Label::new(b""),
+        [_, second, ..] => Label::new(second.word.text),
+    }
+}
+
 impl<'a> Sections<'a> {
     /// A pin or obstructions open.
     fn opens(&mut self)
-        ensures { (there : There) (unit : List Token) → Leads Act.Opens there unit self.old self.new }
+        ensures { (there : There) (unit : List (Said Says)) → Leads Act.Opens there unit self.old self.new }
     {
         self.rects.clear();
         self.bad = None;
     }
 
     /// `LAYER name`.
-    fn names_layer(&mut self, unit: &[Word<'a>]) -> Result<(), AllocError>
-        ensures { OnOk result ((there : There) → Leads Act.Layer there (map token unit.now) self.old self.new) }
+    fn names_layer(&mut self, unit: &[Heard<'a, Value>])
+        ensures { (there : There) → Leads Act.Layer there unit.now self.old self.new }
     {
-        let [_, name] = unit else {
-            return Err(AllocError);
-        };
-        self.layer = Label::new(name.text);
-        Ok(())
+        self.layer = second_text(unit);
     }
 
-    /// A whole RECT where no number before it is refused.
-    fn draw_whole(&mut self, alloc: Global, unit: &[Word<'_>]) -> Result<(), AllocError>
-        requires fine { self.now.bad ≡ None }
-        requires whole { is_rect (map token unit.now) ≡ true }
-        ensures { OnOk result ((there : There) → Leads Act.Draws there (map token unit.now) self.old self.new) }
+    /// A RECT where no number is refused, neither before it nor in it.
+    fn draw_fine(&mut self, alloc: Global, unit: &[Heard<'_, Value>]) -> Result<(), AllocError>
+        requires { self.now.bad ≡ None }
+        ensures { OnOk result (((numbers : List Token) → AreCoordinates numbers →
+            AreCoordinates (noted_in numbers (map heard_token unit.now))) →
+            (there : There) → Leads Act.Draws there unit.now self.old self.new) }
     {
-        let [_, a, b, c, d, _] = unit else {
-            return Err(AllocError);
+        texts_have_one_number();
+        let Some(corners) = corners_of(unit) else {
+            return Ok(());
         };
-        if !are_numbers(a, b, c, d) {
-            return Err(AllocError);
-        }
-        match corners_at(a, b, c, d) {
-            Ok(corners) => {
-                let layer = Name::new(alloc, self.layer.bytes())?;
-                self.rects.push(between(layer, corners))?;
-            }
-            Err(bad) => self.bad = Some(bad),
-        }
+        let layer = Name::new(alloc, self.layer.bytes())?;
+        self.rects.push(between(layer, corners))?;
         Ok(())
     }
 
     /// A RECT where no number before it is refused.
-    fn draw(&mut self, alloc: Global, unit: &[Word<'_>]) -> Result<(), AllocError>
+    fn draw(&mut self, alloc: Global, unit: &[Heard<'_, Value>]) -> Result<(), AllocError>
         requires { self.now.bad ≡ None }
-        ensures { OnOk result ((there : There) → Leads Act.Draws there (map token unit.now) self.old self.new) }
+        ensures { OnOk result ((there : There) → Leads Act.Draws there unit.now self.old self.new) }
     {
-        if is_rect(unit) {
-            return self.draw_whole(alloc, unit);
+        match bad_in(unit) {
+            Some(bad) => {
+                self.bad = Some(bad);
+                Ok(())
+            }
+            None => self.draw_fine(alloc, unit),
         }
-        self.bad = bad_in(unit);
-        Ok(())
     }
 
     /// A RECT, or its words up to one that cannot stand there.
-    fn draws(&mut self, alloc: Global, unit: &[Word<'_>]) -> Result<(), AllocError>
-        ensures { OnOk result ((there : There) → Leads Act.Draws there (map token unit.now) self.old self.new) }
+    fn draws(&mut self, alloc: Global, unit: &[Heard<'_, Value>]) -> Result<(), AllocError>
+        ensures { OnOk result ((there : There) → Leads Act.Draws there unit.now self.old self.new) }
     {
         match self.bad {
             Some(_) => Ok(()),
@@ -188,34 +199,30 @@ impl<'a> Sections<'a> {
         }
     }
 
-    /// A pin ends.
+    /// A pin ends, in which no number is refused.
     fn ends_pin(&mut self, alloc: Global, name: &[u8], power: bool) -> Result<(), AllocError>
-        ensures { OnOk result ((there : There) (unit : List Token) → pin_name there.pin ≡ name.now →
+        ensures { OnOk result ((there : There) (unit : List (Said Says)) → pin_name there.pin ≡ name.now →
             Leads (Act.EndsPin power) there unit self.old self.new) }
     {
-        let None = self.bad else {
-            return Err(AllocError);
-        };
+        texts_have_one_number();
         let rects = mem::replace(&mut self.rects, Vec::new(alloc));
         self.pins.push(pin_of(alloc, name, power, rects)?)?;
         Ok(())
     }
 
-    /// Obstructions end.
+    /// Obstructions end, in which no number is refused.
     fn ends_obstructions(&mut self) -> Result<(), AllocError>
-        ensures { OnOk result ((there : There) (unit : List Token) →
+        ensures { OnOk result ((there : There) (unit : List (Said Says)) →
             Leads Act.EndsObstructions there unit self.old self.new) }
     {
-        let None = self.bad else {
-            return Err(AllocError);
-        };
+        texts_have_one_number();
         self.obstructions.append(&mut self.rects)?;
         Ok(())
     }
 
     /// A macro ends.
     fn ends_macro(&mut self, alloc: Global, name: &[u8]) -> Result<(), AllocError>
-        ensures { OnOk result ((there : There) (unit : List Token) → there.cell ≡ name.now →
+        ensures { OnOk result ((there : There) (unit : List (Said Says)) → there.cell ≡ name.now →
             Leads Act.EndsMacro there unit self.old self.new) }
     {
         let pins = mem::replace(&mut self.pins, Vec::new(alloc));
@@ -231,9 +238,9 @@ impl<'a> Sections<'a> {
         alloc: Global,
         act: Act,
         standing: &Standing<'a>,
-        unit: &[Word<'a>],
+        unit: &[Heard<'a, Value>],
     ) -> Result<(), AllocError>
-        ensures { OnOk result (Leads act standing.now (map token unit.now) self.old self.new) }
+        ensures { OnOk result (Leads act standing.now unit.now self.old self.new) }
     {
         match act {
             Act::Nothing => Ok(()),
@@ -241,7 +248,10 @@ impl<'a> Sections<'a> {
                 self.opens();
                 Ok(())
             }
-            Act::Layer => self.names_layer(unit),
+            Act::Layer => {
+                self.names_layer(unit);
+                Ok(())
+            }
             Act::Draws => self.draws(alloc, unit),
             Act::EndsPin(power) => self.ends_pin(alloc, pin_name(&standing.pin), power),
             Act::EndsObstructions => self.ends_obstructions(),
@@ -252,9 +262,10 @@ impl<'a> Sections<'a> {
 
 impl<'a> Held<'a> {
     /// Takes what a whole unit says, and goes on to where it leads.
-    pub(crate) fn take(&mut self, unit: &[Word<'a>]) -> Result<(), AllocError>
+    pub(crate) fn take(&mut self, unit: &[Heard<'a, Value>]) -> Result<(), AllocError>
         ensures { OnOk result ((units : List (List Token)) → Holds units self.old →
-            Holds (units ++ map token unit.now ∷ []) self.new) }
+            IsTaken format units (map heard_token unit.now) → AreHeard (says units) [] unit.now →
+            Holds (units ++ map heard_token unit.now ∷ []) self.new) }
     {
         let act = act_of(self.standing.section(), &self.standing.pin, unit);
         self.said.take(self.alloc, act, &self.standing, unit)?;

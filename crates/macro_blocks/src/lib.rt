@@ -20,6 +20,7 @@ mod rule;
 mod section;
 mod sort;
 mod standing;
+mod value;
 
 pub use error::{BlocksError, BlocksKind};
 pub use laws::texts_have_one_record;

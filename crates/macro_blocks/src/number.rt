@@ -1,20 +1,21 @@
 //! The coordinates of a LEF library.
-ghost use Rattle.std.specs.Prelude.{◌≡◌, List, [], ◌∷◌, map, true, IsTrue, IfOk, IfErr};
+ghost use Rattle.std.specs.Prelude.{◌≡◌, List, [], ◌∷◌, map, IfOk, IfErr, IfNone, IfSome, false};
 ghost use Rattle.fixed_decimal.specs.declared.error.DecimalError.{DecimalError as Reason};
-ghost use Rattle.macro_blocks.specs.Fault.{AreCoordinates, IsFirstBad};
+ghost use Rattle.macro_blocks.specs.Fault.{AreCoordinates};
 ghost use Rattle.macro_blocks.specs.Number.{IsCoordinate, IsRefused};
 ghost use Rattle.macro_blocks.specs.Record.{noted, noted_in};
-ghost use Rattle.macro_blocks.specs.Rule.{is_number};
-ghost use Rattle.macro_blocks.specs.Sort.{sort_of};
-ghost use Rattle.macro_blocks.specs.inside.Held.{IsBad};
+ghost use Rattle.macro_blocks.specs.Standing.{is_rect};
+ghost use Rattle.macro_blocks.specs.inside.Held.{IsBad, IsSaid, AreCorners};
+ghost use Rattle.macro_blocks.specs.inside.Value.{IsPlace, ArePlaces};
 ghost use Rattle.number_place.specs.declared.place.Refused.TheVariants.{Number};
-ghost use Rattle.reading.specs.Word.{Token, token};
+ghost use Rattle.reading.specs.Word.{Token, token, heard_token};
 
-use crate::sort::{Sort, sort_of};
+use crate::standing::is_stop;
+use crate::value::Value;
 use fixed_decimal::DecimalError;
 use number_place::{NumberForm, NumberPlace, NumberSign, Refused, small_number_at};
 use outside::Place;
-use reading::Word;
+use reading::{Heard, Word};
 
 /// No coordinate is farther from 0, in pm: 100 mm.
 pub const COORDINATE_LIMIT: u128 = 100_000_000_000;
@@ -47,35 +48,24 @@ pub(crate) fn coordinate_of(word: &Word<'_>) -> Result<i64, DecimalError>
     }
 }
 
-/// Whether the word stands for a number where one is asked.
-pub(crate) fn is_number(word: &Word<'_>) -> bool
-    ensures { result ≡ is_number (sort_of (token word.now)) }
-{
-    match sort_of(word) {
-        Sort::Semicolon | Sort::Bracket | Sort::TextEnd => false,
-        _ => true,
-    }
-}
-
 /// The word, where it stands for a number and is refused.
-fn first_bad(word: &Word<'_>) -> Option<Bad>
-    ensures { (numbers : List Token) → AreCoordinates numbers → IsBad (noted numbers (token word.now)) result }
+fn first_bad(word: &Heard<'_, Value>) -> Option<Bad>
+    ensures { IsPlace word.now → (numbers : List Token) → AreCoordinates numbers →
+        IsBad (noted numbers (heard_token word.now)) result }
 {
-    if !is_number(word) {
-        return None;
-    }
-    match coordinate_of(word) {
-        Ok(_) => None,
-        Err(error) => Some(Bad {
-            place: word.place,
+    match word.value {
+        Value::Refused(error) => Some(Bad {
+            place: word.word.place,
             error,
         }),
+        _ => None,
     }
 }
 
 /// The first number that is refused, after one more word.
-fn bad_after(bad: Option<Bad>, word: &Word<'_>) -> Option<Bad>
-    ensures { (numbers : List Token) → IsBad numbers bad → IsBad (noted numbers (token word.now)) result }
+fn bad_after(bad: Option<Bad>, word: &Heard<'_, Value>) -> Option<Bad>
+    ensures { IsPlace word.now → (numbers : List Token) → IsBad numbers bad →
+        IsBad (noted numbers (heard_token word.now)) result }
 {
     match bad {
         Some(bad) => Some(bad),
@@ -83,102 +73,32 @@ fn bad_after(bad: Option<Bad>, word: &Word<'_>) -> Option<Bad>
     }
 }
 
-/// The coordinate that the word is, or that it is refused.
-fn coordinate_at(word: &Word<'_>) -> Result<i64, Bad>
-    ensures value { IfOk result (IsCoordinate (token word.now)) }
-    ensures bad { IfErr result (IsFirstBad (token word.now ∷ [])) }
-{
-    match coordinate_of(word) {
-        Ok(value) => Ok(value),
-        Err(error) => Err(Bad {
-            place: word.place,
-            error,
-        }),
-    }
-}
-
-/// A corner of a rectangle.
-#[derive(Clone, Copy, Debug)]
-pub(crate) struct Corner {
-    pub(crate) x: i64,
-    pub(crate) y: i64,
-}
-
-/// The corner that two words are, or the first of them that is refused.
-fn corner_at(x: &Word<'_>, y: &Word<'_>) -> Result<Corner, Bad>
-    ensures x { IfOk result (λ corner. IsCoordinate (token x.now) corner.x) }
-    ensures y { IfOk result (λ corner. IsCoordinate (token y.now) corner.y) }
-    ensures bad { IfErr result (IsFirstBad (token x.now ∷ token y.now ∷ [])) }
-{
-    let x = match coordinate_at(x) {
-        Ok(x) => x,
-        Err(bad) => return Err(bad),
-    };
-    match coordinate_at(y) {
-        Ok(y) => Ok(Corner { x, y }),
-        Err(bad) => Err(bad),
-    }
-}
-
-/// Two opposite corners of a rectangle.
-#[derive(Clone, Copy, Debug)]
-pub(crate) struct Corners {
-    pub(crate) one: Corner,
-    pub(crate) other: Corner,
-}
-
-/// The corners that four words are, or the first of them that is refused.
-pub(crate) fn corners_at(
-    a: &Word<'_>,
-    b: &Word<'_>,
-    c: &Word<'_>,
-    d: &Word<'_>,
-) -> Result<Corners, Bad>
-    ensures a { IfOk result (λ corners. IsCoordinate (token a.now) corners.one.x) }
-    ensures b { IfOk result (λ corners. IsCoordinate (token b.now) corners.one.y) }
-    ensures c { IfOk result (λ corners. IsCoordinate (token c.now) corners.other.x) }
-    ensures d { IfOk result (λ corners. IsCoordinate (token d.now) corners.other.y) }
-    ensures bad { IfErr result (IsFirstBad (token a.now ∷ token b.now ∷ token c.now ∷ token d.now ∷ [])) }
-{
-    let one = match corner_at(a, b) {
-        Ok(one) => one,
-        Err(bad) => return Err(bad),
-    };
-    match corner_at(c, d) {
-        Ok(other) => Ok(Corners { one, other }),
-        Err(bad) => Err(bad),
-    }
-}
-
-/// Whether four words stand for numbers.
-pub(crate) fn are_numbers(a: &Word<'_>, b: &Word<'_>, c: &Word<'_>, d: &Word<'_>) -> bool
-    ensures a { IsTrue result → is_number (sort_of (token a.now)) ≡ true }
-    ensures b { IsTrue result → is_number (sort_of (token b.now)) ≡ true }
-    ensures c { IsTrue result → is_number (sort_of (token c.now)) ≡ true }
-    ensures d { IsTrue result → is_number (sort_of (token d.now)) ≡ true }
-{
-    is_number(a) && is_number(b) && is_number(c) && is_number(d)
-}
-
 /// The first of two words.
-fn bad_of_two(a: &Word<'_>, b: &Word<'_>) -> Option<Bad>
-    ensures { (numbers : List Token) → AreCoordinates numbers →
-        IsBad (noted (noted numbers (token a.now)) (token b.now)) result }
+fn bad_of_two(a: &Heard<'_, Value>, b: &Heard<'_, Value>) -> Option<Bad>
+    ensures { IsPlace a.now → IsPlace b.now → (numbers : List Token) → AreCoordinates numbers →
+        IsBad (noted (noted numbers (heard_token a.now)) (heard_token b.now)) result }
 {
     bad_after(first_bad(a), b)
 }
 
 /// The first of four words.
-fn bad_of_four(a: &Word<'_>, b: &Word<'_>, c: &Word<'_>, d: &Word<'_>) -> Option<Bad>
-    ensures { (numbers : List Token) → AreCoordinates numbers →
-        IsBad (noted (noted (noted (noted numbers (token a.now)) (token b.now)) (token c.now)) (token d.now)) result }
+fn bad_of_four(
+    a: &Heard<'_, Value>,
+    b: &Heard<'_, Value>,
+    c: &Heard<'_, Value>,
+    d: &Heard<'_, Value>,
+) -> Option<Bad>
+    ensures { IsPlace a.now → IsPlace b.now → IsPlace c.now → IsPlace d.now → (numbers : List Token) →
+        AreCoordinates numbers → IsBad (noted (noted (noted (noted numbers (heard_token a.now)) (heard_token b.now))
+        (heard_token c.now)) (heard_token d.now)) result }
 {
     bad_after(bad_after(bad_of_two(a, b), c), d)
 }
 
 /// The first number of a RECT that is refused.
-pub(crate) fn bad_in(unit: &[Word<'_>]) -> Option<Bad>
-    ensures { (numbers : List Token) → AreCoordinates numbers → IsBad (noted_in numbers (map token unit.now)) result }
+pub(crate) fn bad_in(unit: &[Heard<'_, Value>]) -> Option<Bad>
+    ensures { ArePlaces unit.now → (numbers : List Token) → AreCoordinates numbers →
+        IsBad (noted_in numbers (map heard_token unit.now)) result }
 {
     match unit {
         [] => None,
@@ -190,4 +110,46 @@ pub(crate) fn bad_in(unit: &[Word<'_>]) -> Option<Bad>
         [_, a, b, c, d, _] => bad_of_four(a, b, c, d),
         _ => None,
     }
+}
+
+/// A corner of a rectangle.
+#[derive(Clone, Copy, Debug)]
+pub(crate) struct Corner {
+    pub(crate) x: i64,
+    pub(crate) y: i64,
+}
+
+/// The corner that two words say.
+fn corner_of(x: &Heard<'_, Value>, y: &Heard<'_, Value>) -> Corner
+    ensures x { IsSaid x.now result.x }
+    ensures y { IsSaid y.now result.y }
+{
+    Corner {
+        x: x.value.coordinate(),
+        y: y.value.coordinate(),
+    }
+}
+
+/// Two opposite corners of a rectangle.
+#[derive(Clone, Copy, Debug)]
+pub(crate) struct Corners {
+    pub(crate) one: Corner,
+    pub(crate) other: Corner,
+}
+
+/// The corners of a RECT, where it is whole.
+pub(crate) fn corners_of(unit: &[Heard<'_, Value>]) -> Option<Corners>
+    ensures none { IfNone result (is_rect (map heard_token unit.now) ≡ false) }
+    ensures some { IfSome result (λ corners. AreCorners unit.now corners) }
+{
+    let [_, a, b, c, d, stop] = unit else {
+        return None;
+    };
+    if !is_stop(&stop.word) {
+        return None;
+    }
+    Some(Corners {
+        one: corner_of(a, b),
+        other: corner_of(c, d),
+    })
 }

@@ -4,13 +4,14 @@ ghost use Rattle.macro_blocks.specs.Rule.{is_name};
 ghost use Rattle.macro_blocks.specs.Sort.{the, sort_of};
 ghost use Rattle.macro_blocks.specs.Standing.{pin_name, is_told, is_known, is_own, used, passed_by, in_macro, after_top, after_macro_word, after_macro, after_pin_word, unused, after_other_use, after_use, after_pin, around, after_port_word, after_port, is_rect, after_unfit, after_passed, after_one, after_two, after_more, after_words, section_in, last_in, standing_after, at_start};
 ghost use Rattle.lef_statements.specs.Passing.{section_after};
-ghost use Rattle.reading.specs.Word.{token, last_of};
+ghost use Rattle.reading.specs.Word.{token, heard_token, last_of};
 
 use crate::label::Label;
 use crate::section::Section;
 use crate::sort::{Sort, sort_of};
+use crate::value::Value;
 use lef_statements::{OpenName, Passing, is_word};
-use reading::{Word, last_word};
+use reading::{Heard, Word, last_heard};
 
 /// The pin that is open.
 #[derive(Debug, Drop)]
@@ -138,11 +139,11 @@ pub(crate) fn is_stop(word: &Word<'_>) -> bool
 }
 
 /// Whether the unit is a whole RECT, and not its words up to one that cannot stand there.
-pub(crate) fn is_rect(unit: &[Word<'_>]) -> bool
-    ensures { result ≡ is_rect (map token unit.now) }
+fn is_rect(unit: &[Heard<'_, Value>]) -> bool
+    ensures { result ≡ is_rect (map heard_token unit.now) }
 {
     match unit {
-        [_, _, _, _, _, stop] => is_stop(stop),
+        [_, _, _, _, _, stop] => is_stop(&stop.word),
         _ => false,
     }
 }
@@ -397,29 +398,29 @@ impl<'a> Standing<'a> {
         }
     }
 
-    fn after_words(&mut self, section: Section, unit: &[Word<'a>])
-        ensures { self.new ≡ after_words section (map token unit.now) self.old }
+    fn after_words(&mut self, section: Section, unit: &[Heard<'a, Value>])
+        ensures { self.new ≡ after_words section (map heard_token unit.now) self.old }
     {
         match unit {
             [] => {}
-            [word] => self.after_one(section, word),
-            [first, second] => self.after_two(section, sort_of(first), second),
+            [word] => self.after_one(section, &word.word),
+            [first, second] => self.after_two(section, sort_of(&first.word), &second.word),
             _ => self.after_more(section, is_rect(unit)),
         }
     }
 
     /// Keeps the sort of the last word.
-    fn keep_last(&mut self, unit: &[Word<'a>])
-        ensures { self.new ≡ record self.old { last = last_in Section.Unfit (last_of (map token unit.now)) self.old.last } }
+    fn keep_last(&mut self, unit: &[Heard<'a, Value>])
+        ensures { self.new ≡ record self.old { last = last_in Section.Unfit (last_of (map heard_token unit.now)) self.old.last } }
     {
-        if let Some(word) = last_word(unit) {
-            self.last = sort_of(word);
+        if let Some(last) = last_heard(unit) {
+            self.last = sort_of(&last.word);
         }
     }
 
     /// Goes on to where one more unit leads.
-    pub(crate) fn go_on(&mut self, unit: &[Word<'a>])
-        ensures { self.new ≡ standing_after self.old (map token unit.now) }
+    pub(crate) fn go_on(&mut self, unit: &[Heard<'a, Value>])
+        ensures { self.new ≡ standing_after self.old (map heard_token unit.now) }
     {
         self.after_words(self.section(), unit);
         if let Section::Unfit = self.section() {

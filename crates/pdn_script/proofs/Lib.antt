@@ -1,7 +1,15 @@
 pub mod Standing
 pub mod Giving
 pub mod Words
+pub mod Hearing
+pub mod Options
+pub mod Whole
+pub mod Keeping
+pub mod Saying
+pub mod Kept
 pub mod Places
 pub mod One
 pub mod Law
 pub mod Taken
+pub mod Values
+pub mod Told

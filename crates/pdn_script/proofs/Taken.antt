@@ -1,7 +1,6 @@
 -- One more unit is taken.
-use Rattle.std.proofs.Common.{◌≡◌, List, [], ◌∷◌, ◌++◌, Option, None, Some, Result, Ok, Err, IfOk, OnOk, refl, sym, ◌∙◌, ap, subst}
+use Rattle.std.proofs.Common.{◌≡◌, ◌≤◌, ◌^◌, List, [], ◌∷◌, ◌++◌, length, map, Option, None, Some, Result, Ok, Err, OnOk, refl, sym, ◌∙◌, ap, subst}
 use Rattle.std.specs.declared.alloc.AllocError.{AllocError}
-use Rattle.pdn_script.specs.declared.error.ScriptKind.{ScriptKind}
 use Rattle.pdn_script.specs.declared.held.Held.{Held}
 use Rattle.pdn_script.specs.declared.held.Lists.{Lists}
 use Rattle.pdn_script.specs.declared.known.Known.{Known}
@@ -12,14 +11,18 @@ use Rattle.pdn_script.specs.declared.record.Ring.{Ring}
 use Rattle.pdn_script.specs.declared.record.Connect.{Connect}
 use Rattle.pdn_script.specs.declared.record.Script.{Script}
 use Rattle.pdn_script.specs.declared.statement.Statement.{Statement}
-use Rattle.pdn_script.specs.Fault.{FaultIn, FindsFault}
 use Rattle.pdn_script.specs.Format.{format}
 use Rattle.pdn_script.specs.Known.{nothing_known, known_after, known_from, known_of}
 use Rattle.pdn_script.specs.Record.{Says, Told, with_statement, script_from, no_commands, IsScript}
-use Rattle.pdn_script.specs.inside.Held.{script_in, Holds}
-use Rattle.reading.specs.declared.refusal.Found.{Found}
-use Rattle.reading.specs.Grammar.{IsTaken, Shows}
-use Rattle.reading.specs.Word.{Token}
+use Rattle.pdn_script.specs.Limits.{ScriptKeeps}
+use Rattle.pdn_script.specs.inside.Held.{script_in, KeepsWith, Holds}
+use Rattle.pdn_script.specs.inside.Value.{says}
+use Rattle.pdn_script.proofs.Keeping.{Limits}
+use Rattle.pdn_script.proofs.Kept.{unit_kept, nothing_kept, script_kept}
+use Rattle.pdn_script.specs.declared.value.Value.{Value}
+use Rattle.reading.specs.declared.word.Heard.{Heard}
+use Rattle.reading.specs.Grammar.{AreHeard, IsTaken}
+use Rattle.reading.specs.Word.{Token, heard_token}
 
 known_more : (known : Known) (units : List (List Token)) (unit : List Token) → known_from known (units ++ unit ∷ []) ≡ known_after (known_from known units) unit
 known_more known [] unit = refl
@@ -36,43 +39,54 @@ script_more : (script : Script) (told : List (Option Statement)) (one : Option S
 script_more script [] one = refl
 script_more script (t ∷ told) one = script_more (with_statement script t) told one
 
-pub taken : (r : Result (Unit {0}) AllocError) (old new : Held) (unit : List Token) (told : Option Statement) → Says old.known unit told →
-    script_in new.lists ≡ with_statement (script_in old.lists) told → OnOk r (new.known ≡ known_after old.known unit) →
-    OnOk r ((units : List (List Token)) → Holds units old → IsTaken format units unit → Holds (units ++ unit ∷ []) new)
-taken (Err e) old new unit told says adds moves = tt
-taken (Ok x) old new unit told says adds moves = λ units h t. record {
-  known = moves ∙ ap (λ z. known_after z unit) h.known ∙ sym (known_more nothing_known units unit);
-  told = h.told ++ told ∷ [];
-  tells = told_more nothing_known units unit h.told told h.tells (subst (λ z. Says z unit told) h.known says);
-  script = adds ∙ ap (λ z. with_statement z told) h.script ∙ sym (script_more no_commands h.told told);
+pub taken : Limits → (r : Result (Unit {0}) AllocError) (old new : Held) (unit : List (Heard Value)) (told : Option Statement) →
+    ((units : List (List Token)) → old.known ≡ known_of units → IsTaken format units (map heard_token unit) → AreHeard (says units) [] unit → Says old.known (map heard_token unit) told) →
+    script_in new.lists ≡ with_statement (script_in old.lists) told → OnOk r (new.known ≡ known_after old.known (map heard_token unit)) →
+    OnOk r ((units : List (List Token)) → length units ≤ 2 ^ 63 → Holds units old → IsTaken format units (map heard_token unit) → AreHeard (says units) [] unit →
+    Holds (units ++ map heard_token unit ∷ []) new)
+taken l (Err e) old new unit told saying adds moves = tt
+taken l (Ok x) old new unit told saying adds moves = λ units few h t heard.
+    let words = map heard_token unit in
+    let now = subst (λ z. Says z words told) h.known (saying units h.known t heard) in record {
+      known = moves ∙ ap (λ z. known_after z words) h.known ∙ sym (known_more nothing_known units words);
+      told = h.told ++ told ∷ [];
+      tells = told_more nothing_known units words h.told told h.tells now;
+      script = adds ∙ ap (λ z. with_statement z told) h.script ∙ sym (script_more no_commands h.told told);
+      kept = subst (λ z. KeepsWith z (script_in new.lists)) (sym (moves ∙ ap (λ z. known_after z words) h.known)) (subst (KeepsWith (known_after (known_of units) words)) (sym adds)
+          (unit_kept l units unit (script_in old.lists) told t heard now (subst (λ z. KeepsWith z (script_in old.lists)) h.known h.kept)));
+    }
+
+-- Before the first unit.
+pub begun : (held : Held) → held.known ≡ nothing_known → script_in held.lists ≡ no_commands → Holds [] held
+begun held known script = record {
+  known = known;
+  told = [];
+  tells = tt;
+  script = script;
+  kept = subst (λ z. KeepsWith z (script_in held.lists)) (sym known) (subst (KeepsWith nothing_known) (sym script) nothing_kept);
 }
-
-shown_by : (known : Known) (units : List (List Token)) (part : List Token) (r : Option (Found ScriptKind)) → known ≡ known_of units → FindsFault (FaultIn known part) r → Shows format units part r
-shown_by known units part None e h = λ a f. h a (subst (λ z. FaultIn z part a) (sym e) f)
-shown_by known units part (Some a) e h = subst (λ z. FaultIn z part a) e h
-
--- What is found by what is held is what the words show.
-pub shown : (held : Held) (part : List Token) (r : Option (Found ScriptKind)) → FindsFault (FaultIn held.known part) r → (units : List (List Token)) → Holds units held → Shows format units part r
-shown held part r h units holds = shown_by held.known units part r holds.known h
 
 abbrev the_script : Script → Script
 the_script script = script
 
--- The script of the lists is what the units say.
+script_is : (lists : Lists) (a : List Domain) (b : List GridRule) (c : List Stripe) (d : List Ring) (e : List Connect) →
+    a ≡ lists.domains.items → b ≡ lists.grids.items → c ≡ lists.stripes.items → d ≡ lists.rings.items → e ≡ lists.connects.items →
+    the_script (record { domains = a; grids = b; stripes = c; rings = d; connects = e }) ≡ script_in lists
+script_is lists a b c d e p q r s t =
+    ap (λ z. the_script (record { domains = z; grids = b; stripes = c; rings = d; connects = e })) p
+    ∙ ap (λ z. the_script (record { domains = lists.domains.items; grids = z; stripes = c; rings = d; connects = e })) q
+    ∙ ap (λ z. the_script (record { domains = lists.domains.items; grids = lists.grids.items; stripes = z; rings = d; connects = e })) r
+    ∙ ap (λ z. the_script (record { domains = lists.domains.items; grids = lists.grids.items; stripes = lists.stripes.items; rings = z; connects = e })) s
+    ∙ ap (λ z. the_script (record { domains = lists.domains.items; grids = lists.grids.items; stripes = lists.stripes.items; rings = lists.rings.items; connects = z })) t
+
+-- The script of the lists is what the units say, and keeps its limits.
 pub gathered : (units : List (List Token)) (held : Held) (a : List Domain) (b : List GridRule) (c : List Stripe) (d : List Ring) (e : List Connect) →
     a ≡ held.lists.domains.items → b ≡ held.lists.grids.items → c ≡ held.lists.stripes.items → d ≡ held.lists.rings.items → e ≡ held.lists.connects.items →
     Holds units held → IsScript units (the_script (record { domains = a; grids = b; stripes = c; rings = d; connects = e }))
-gathered units held a b c d e p q r s t h = let lists : Lists = held.lists in (
-  h.told,
-  h.tells,
-  ap (λ z. the_script (record { domains = z; grids = b; stripes = c; rings = d; connects = e })) p
-      ∙ ap (λ z. the_script (record { domains = lists.domains.items; grids = z; stripes = c; rings = d; connects = e })) q
-      ∙ ap (λ z. the_script (record { domains = lists.domains.items; grids = lists.grids.items; stripes = z; rings = d; connects = e })) r
-      ∙ ap (λ z. the_script (record { domains = lists.domains.items; grids = lists.grids.items; stripes = lists.stripes.items; rings = z; connects = e })) s
-      ∙ ap (λ z. the_script (record { domains = lists.domains.items; grids = lists.grids.items; stripes = lists.stripes.items; rings = lists.rings.items; connects = z })) t ∙ h.script,
-)
+gathered units held a b c d e p q r s t h = (h.told, h.tells, script_is held.lists a b c d e p q r s t ∙ h.script)
 
--- A script that is kept is the one that the units say.
-pub kept_says : (units : List (List Token)) (script : Script) (r : Result Script AllocError) → IfOk r (λ k. k ≡ script) → IsScript units script → IfOk r (IsScript units)
-kept_says units script (Ok k) e h = subst (IsScript units) (sym e) h
-kept_says units script (Err x) e h = tt
+pub gathered_kept : (units : List (List Token)) (held : Held) (a : List Domain) (b : List GridRule) (c : List Stripe) (d : List Ring) (e : List Connect) →
+    a ≡ held.lists.domains.items → b ≡ held.lists.grids.items → c ≡ held.lists.stripes.items → d ≡ held.lists.rings.items → e ≡ held.lists.connects.items →
+    Holds units held → ScriptKeeps (the_script (record { domains = a; grids = b; stripes = c; rings = d; connects = e }))
+gathered_kept units held a b c d e p q r s t h =
+    subst ScriptKeeps (sym (script_is held.lists a b c d e p q r s t)) (script_kept held.known (script_in held.lists) h.kept)

@@ -1,19 +1,23 @@
 //! The faults that the words of a command show.
-ghost use Rattle.std.specs.Prelude.{◌≡◌, map};
-ghost use Rattle.pdn_script.specs.Fault.{refused_kind as kind_of_refused, first_kind, first_command as first_of_command, option_kind as kind_of_option, option_need as kind_of_need, name_kind as kind_of_name, own_name, known_domain, known_grid, has_ring, net_use as use_kind, is_text, lacks as lacking, is_missing as missing, needs as need_stands, end_kind as kind_at_end, domain_end, ring_end, missing_kind, plain_kind as kind_of_plain, ValueKind, AtWord, AtLast, LastKind};
-ghost use Rattle.reading.specs.Fault.{Finds};
-ghost use Rattle.reading.specs.Word.{token};
+ghost use Rattle.std.specs.Prelude.{◌≡◌, [], map, None};
+ghost use Rattle.pdn_script.specs.Fault.{refused_kind as kind_of_refused, first_kind, first_command as first_of_command, option_kind as kind_of_option, option_need as kind_of_need, name_kind as kind_of_name, own_name, known_domain, known_grid, has_ring, net_use as use_kind, is_text, lacks as lacking, is_missing as missing, needs as need_stands, end_kind as kind_at_end, domain_end, ring_end, missing_kind, if_so as kind_if, plain_kind as kind_of_plain, ValueKind, AtRole, AtLast};
+ghost use Rattle.pdn_script.specs.Given.{if_valued};
+ghost use Rattle.pdn_script.specs.inside.Value.{waits_of, SaysValue, SaysRole, SaysAfter};
+ghost use Rattle.script_options.specs.Command.{command_named as command_of_text};
+ghost use Rattle.reading.specs.Fault.{FindsValue};
+ghost use Rattle.reading.specs.Word.{token, heard_token};
 
 use crate::error::ScriptKind;
-use crate::given::{option_of, stands, value, waiting};
+use crate::given::{option_of, stands, value};
 use crate::known::{Known, domain_name, or_empty};
 use crate::names::Names;
-use crate::sort::is_end;
+use crate::sort::{is_end, takes_value};
 use crate::text::Bytes;
+use crate::value::Value;
 use number_place::Refused;
-use reading::Word;
+use reading::{Heard, Word};
 use script_options::{
-    Command, Need, ScriptOption, command_named, form_of, need_of, options_of, value_refused,
+    Command, Need, ScriptOption, command_named, form_of, need_of, options_of, value_told,
 };
 
 /// The kind of a value that is refused.
@@ -45,8 +49,9 @@ fn first_command(known: &Known<'_>, command: Command) -> Option<ScriptKind>
     }
 }
 
-/// Why the first word of a command is refused.
-fn first_fault(known: &Known<'_>, first: &Word<'_>) -> Option<ScriptKind>
+/// Why the first word of a command, which is this one, is refused.
+fn first_fault(known: &Known<'_>, first: &Word<'_>, command: Command) -> Option<ScriptKind>
+    requires { command ≡ command_of_text first.now.text.now }
     ensures { result ≡ first_kind known.now (token first.now) }
 {
     if known.passing || is_end(first) {
@@ -55,7 +60,18 @@ fn first_fault(known: &Known<'_>, first: &Word<'_>) -> Option<ScriptKind>
     if known.ended {
         return Some(ScriptKind::AfterPdngen);
     }
-    first_command(known, command_named(first.text))
+    first_command(known, command)
+}
+
+/// What the first word of a command says, or why it is refused.
+pub(crate) fn first_value(known: &Known<'_>, first: &Word<'_>) -> Result<Value, ScriptKind>
+    ensures { FindsValue (AtLast known.now (token first.now) []) (SaysAfter known.now (token first.now) [] None) result }
+{
+    let command = command_named(first.text);
+    match first_fault(known, first, command) {
+        Some(kind) => Err(kind),
+        None => Ok(Value::Command(command)),
+    }
 }
 
 /// Why an option that the command has so far, or has not, is refused.
@@ -75,13 +91,24 @@ fn need_fault(need: Option<Need>, stands: bool) -> Option<ScriptKind>
 }
 
 /// Why a word in the place of an option is refused after these words.
-fn option_fault(command: Command, before: &[Word<'_>], option: ScriptOption) -> Option<ScriptKind>
-    ensures { result ≡ kind_of_option command (map token before.now) option }
+fn option_fault(
+    command: Command,
+    before: &[Heard<'_, Value>],
+    option: ScriptOption,
+) -> Option<ScriptKind>
+    ensures { result ≡ kind_of_option command (map heard_token before.now) option }
 {
     match option {
         ScriptOption::LeftOut => Some(ScriptKind::OutOfProfile),
         _ => need_fault(need_of(command, option), stands(option, before)),
     }
+}
+
+/// The kind, if it is so.
+fn if_so(holds: bool, kind: ScriptKind) -> Option<ScriptKind>
+    ensures { result ≡ kind_if holds kind }
+{
+    if holds { Some(kind) } else { None }
 }
 
 /// Why the name of a new domain or grid is refused.
@@ -93,11 +120,7 @@ fn own_name_fault<'a>(known: &Known<'a>, command: Command, text: &'a [u8]) -> Op
         Command::DefinePdnGrid => known.grids.contains(text),
         _ => false,
     };
-    if stands {
-        Some(ScriptKind::Twice)
-    } else {
-        None
-    }
+    if_so(stands, ScriptKind::Twice)
 }
 
 /// Why the name of a domain is refused that an earlier command has to define.
@@ -153,22 +176,21 @@ fn net_fault<'a>(
 ) -> Option<ScriptKind>
     ensures { result ≡ use_kind others.now other.now text.now }
 {
-    if others.contains(text) || is_same(other, text) {
-        Some(ScriptKind::NetUse)
-    } else {
-        None
-    }
+    if_so(
+        others.contains(text) || is_same(other, text),
+        ScriptKind::NetUse,
+    )
 }
 
 /// Why the name in a value is refused, whose form is right.
 fn name_fault<'a>(
     known: &Known<'a>,
     command: Command,
-    before: &[Word<'a>],
+    before: &[Heard<'a, Value>],
     option: ScriptOption,
     text: &'a [u8],
 ) -> Option<ScriptKind>
-    ensures { result ≡ kind_of_name known.now command (map token before.now) option text.now }
+    ensures { result ≡ kind_of_name known.now command (map heard_token before.now) option text.now }
 {
     match option {
         ScriptOption::Name => own_name_fault(known, command, text),
@@ -184,19 +206,23 @@ fn name_fault<'a>(
     }
 }
 
-/// Why the value of an option is refused.
-fn value_fault<'a>(
+/// The number that the value of an option says, or why the value is refused.
+fn option_value<'a>(
     known: &Known<'a>,
     command: Command,
-    before: &[Word<'a>],
+    before: &[Heard<'a, Value>],
     option: ScriptOption,
     text: &'a [u8],
-) -> Option<ScriptKind>
-    ensures { Finds (ValueKind known.now command (map token before.now) option text.now) result }
+) -> Result<Value, ScriptKind>
+    ensures { FindsValue (ValueKind known.now command (map heard_token before.now) option text.now)
+        (SaysValue known.now command (map heard_token before.now) option text.now) result }
 {
-    match value_refused(form_of(option), text) {
-        Some(refused) => Some(refused_kind(refused)),
-        None => name_fault(known, command, before, option, text),
+    match value_told(form_of(option), text) {
+        Err(refused) => Err(refused_kind(refused)),
+        Ok(number) => match name_fault(known, command, before, option, text) {
+            Some(kind) => Err(kind),
+            None => Ok(Value::Number(number)),
+        },
     }
 }
 
@@ -212,15 +238,15 @@ fn needs(need: Need, rail: bool) -> bool
 }
 
 /// Whether the option is missing.
-fn is_missing(need: Need, rail: bool, option: ScriptOption, words: &[Word<'_>]) -> bool
-    ensures { result ≡ missing need rail option (map token words.now) }
+fn is_missing(need: Need, rail: bool, option: ScriptOption, words: &[Heard<'_, Value>]) -> bool
+    ensures { result ≡ missing need rail option (map heard_token words.now) }
 {
     needs(need, rail) && !stands(option, words)
 }
 
 /// Whether the command lacks an option that it needs.
-fn lacks(command: Command, words: &[Word<'_>]) -> bool
-    ensures { result ≡ lacking command (map token words.now) }
+fn lacks(command: Command, words: &[Heard<'_, Value>]) -> bool
+    ensures { result ≡ lacking command (map heard_token words.now) }
 {
     let rail = stands(ScriptOption::Followpins, words);
     for row in options_of(command) {
@@ -235,16 +261,12 @@ fn lacks(command: Command, words: &[Word<'_>]) -> bool
 fn missing_fault(missing: bool) -> Option<ScriptKind>
     ensures { result ≡ missing_kind missing }
 {
-    if missing {
-        Some(ScriptKind::MissingOption)
-    } else {
-        None
-    }
+    if_so(missing, ScriptKind::MissingOption)
 }
 
 /// Why a domain may not end here.
-fn domain_end_fault<'a>(known: &Known<'a>, words: &[Word<'a>]) -> Option<ScriptKind>
-    ensures { result ≡ domain_end known.now (map token words.now) }
+fn domain_end_fault<'a>(known: &Known<'a>, words: &[Heard<'a, Value>]) -> Option<ScriptKind>
+    ensures { result ≡ domain_end known.now (map heard_token words.now) }
 {
     let regionless = value(ScriptOption::Region, words).is_none();
     if regionless
@@ -257,8 +279,8 @@ fn domain_end_fault<'a>(known: &Known<'a>, words: &[Word<'a>]) -> Option<ScriptK
 }
 
 /// Why a ring may not end here.
-fn ring_end_fault<'a>(known: &Known<'a>, words: &[Word<'a>]) -> Option<ScriptKind>
-    ensures { result ≡ ring_end known.now (map token words.now) }
+fn ring_end_fault<'a>(known: &Known<'a>, words: &[Heard<'a, Value>]) -> Option<ScriptKind>
+    ensures { result ≡ ring_end known.now (map heard_token words.now) }
 {
     if value(ScriptOption::Grid, words).is_none()
         && known.ringed.contains(or_empty(&known.last_grid))
@@ -269,8 +291,12 @@ fn ring_end_fault<'a>(known: &Known<'a>, words: &[Word<'a>]) -> Option<ScriptKin
 }
 
 /// Why the end of a command is refused.
-fn end_fault<'a>(known: &Known<'a>, command: Command, words: &[Word<'a>]) -> Option<ScriptKind>
-    ensures { result ≡ kind_at_end known.now command (map token words.now) }
+fn end_fault<'a>(
+    known: &Known<'a>,
+    command: Command,
+    words: &[Heard<'a, Value>],
+) -> Option<ScriptKind>
+    ensures { result ≡ kind_at_end known.now command (map heard_token words.now) }
 {
     match command {
         Command::SetVoltageDomain => domain_end_fault(known, words),
@@ -283,10 +309,10 @@ fn end_fault<'a>(known: &Known<'a>, command: Command, words: &[Word<'a>]) -> Opt
 fn plain_fault<'a>(
     known: &Known<'a>,
     command: Command,
-    before: &[Word<'a>],
+    before: &[Heard<'a, Value>],
     last: &Word<'a>,
 ) -> Option<ScriptKind>
-    ensures { result ≡ kind_of_plain known.now command (map token before.now) (token last.now) }
+    ensures { result ≡ kind_of_plain known.now command (map heard_token before.now) (token last.now) }
 {
     if is_end(last) {
         end_fault(known, command, before)
@@ -295,37 +321,33 @@ fn plain_fault<'a>(
     }
 }
 
-/// Why a word after the first one is refused.
-fn word_fault<'a>(
+/// What the name of an option says.
+fn name_value(option: ScriptOption) -> Value
+    ensures { waits_of result ≡ if_valued option }
+{
+    if takes_value(option) {
+        Value::Waits(option)
+    } else {
+        Value::Nothing
+    }
+}
+
+/// What a word after the first one says, where this waits for its value, or why it is refused.
+pub(crate) fn word_value<'a>(
     known: &Known<'a>,
     command: Command,
-    before: &[Word<'a>],
+    waits: Option<ScriptOption>,
+    before: &[Heard<'a, Value>],
     last: &Word<'a>,
-) -> Option<ScriptKind>
-    ensures { Finds (AtWord known.now command (map token before.now) (token last.now)) result }
+) -> Result<Value, ScriptKind>
+    ensures { FindsValue (AtRole known.now command (map heard_token before.now) (token last.now) waits)
+        (SaysRole known.now command (map heard_token before.now) waits (token last.now)) result }
 {
-    match waiting(before) {
-        Some(option) => value_fault(known, command, before, option, last.text),
-        None => plain_fault(known, command, before, last),
-    }
-}
-
-/// Why the last of the words after the first one is refused, or the first one where there are none.
-fn last_fault<'a>(known: &Known<'a>, first: &Word<'a>, words: &[Word<'a>]) -> Option<ScriptKind>
-    ensures { Finds (AtLast known.now (token first.now) (map token words.now)) result }
-{
-    match words.split_last() {
-        None => first_fault(known, first),
-        Some((last, before)) => word_fault(known, command_named(first.text), before, last),
-    }
-}
-
-/// Why the last of the words is refused.
-pub(crate) fn kind_in<'a>(known: &Known<'a>, part: &[Word<'a>]) -> Option<ScriptKind>
-    ensures { Finds (LastKind known.now (map token part.now)) result }
-{
-    match part.split_first() {
-        None => None,
-        Some((first, words)) => last_fault(known, first, words),
+    match waits {
+        Some(option) => option_value(known, command, before, option, last.text),
+        None => match plain_fault(known, command, before, last) {
+            Some(kind) => Err(kind),
+            None => Ok(name_value(option_of(last))),
+        },
     }
 }

@@ -1,6 +1,7 @@
 //! The fields of records, from the values of options.
 ghost use Rattle.std.specs.Prelude.{◌≡◌, IfOk};
-ghost use Rattle.pdn_script.specs.Field.{start_of as start, maybe_start as starts, start_or_ground as start_or, IsNames, IsMaybeNames, IsNumber, IsMaybeNumber, IsNumberOrZero, AreNumbers, AreMaybeNumbers};
+ghost use Rattle.pdn_script.specs.Field.{start_of as start, maybe_start as starts, start_or_ground as start_or, IsNames, IsMaybeNames, AreNumbers, AreMaybeNumbers};
+ghost use Rattle.pdn_script.specs.inside.Value.{count_in, HaveNumbers};
 ghost use Rattle.pdn_script.specs.Known.{or_empty as or_nothing};
 ghost use Rattle.script_options.specs.declared.number.Quantity.TheVariants as quantities;
 
@@ -9,7 +10,7 @@ use crate::record::Start;
 use crate::text::Bytes;
 use entry_list::Entries;
 use outside::Name;
-use script_options::{Quantity, number_in, numbers_in, parts_of};
+use script_options::{Quantity, list_numbers, parts_of};
 use std::alloc::{AllocError, Global};
 
 /// The net that the word says.
@@ -83,60 +84,13 @@ pub(crate) fn maybe_names(
     }
 }
 
-/// The number. It has shown no fault: otherwise the answer is want of memory, which says nothing.
-pub(crate) fn number(quantity: Quantity, value: &Option<Bytes<'_>>) -> Result<u64, AllocError>
-    ensures { IfOk result (λ number. IsNumber quantity value.now number) }
+/// The count, if one is stated: at most 10^6.
+pub(crate) fn maybe_count(number: Option<u64>) -> Option<u32>
+    ensures { result ≡ count_in number }
 {
-    match number_in(quantity, or_empty(value)) {
-        Some(number) => Ok(number),
-        None => Err(AllocError),
-    }
-}
-
-/// The number, if one is stated.
-pub(crate) fn maybe_number(
-    quantity: Quantity,
-    value: &Option<Bytes<'_>>,
-) -> Result<Option<u64>, AllocError>
-    ensures { IfOk result (λ number. IsMaybeNumber quantity value.now number) }
-{
-    match value {
-        Some(text) => match number_in(quantity, text.bytes()) {
-            Some(number) => Ok(Some(number)),
-            None => Err(AllocError),
-        },
-        None => Ok(None),
-    }
-}
-
-/// The count, if one is stated.
-pub(crate) fn maybe_count(value: &Option<Bytes<'_>>) -> Result<Option<u32>, AllocError>
-    ensures { IfOk result (λ number. IsMaybeNumber quantities.Count value.now number) }
-{
-    match value {
-        Some(text) => match number_in(Quantity::Count, text.bytes()) {
-            Some(number) => {
-                if number > 1_000_000 {
-                    return Err(AllocError);
-                }
-                Ok(Some(number as u32))
-            }
-            None => Err(AllocError),
-        },
-        None => Ok(None),
-    }
-}
-
-/// The length, or 0.
-pub(crate) fn number_or_zero(value: &Option<Bytes<'_>>) -> Result<u64, AllocError>
-    ensures { IfOk result (λ number. IsNumberOrZero value.now number) }
-{
-    match value {
-        Some(text) => match number_in(Quantity::Length, text.bytes()) {
-            Some(number) => Ok(number),
-            None => Err(AllocError),
-        },
-        None => Ok(0),
+    match number {
+        Some(number) => Some(number.min(1_000_000) as u32),
+        None => None,
     }
 }
 
@@ -146,20 +100,20 @@ pub(crate) fn numbers(
     quantity: Quantity,
     value: &Option<Bytes<'_>>,
 ) -> Result<Entries<u64>, AllocError>
-    ensures { IfOk result (λ numbers. AreNumbers quantity value.now numbers) }
+    ensures { IfOk result (λ numbers. HaveNumbers quantity value.now → AreNumbers quantity value.now numbers) }
 {
-    Ok(Entries::new(numbers_in(alloc, quantity, or_empty(value))?))
+    Ok(Entries::new(list_numbers(alloc, quantity, or_empty(value))?))
 }
 
 /// The lengths of a list, if one is stated.
-pub(crate) fn maybe_numbers(
+pub(crate) fn maybe_lengths(
     alloc: Global,
     value: &Option<Bytes<'_>>,
 ) -> Result<Option<Entries<u64>>, AllocError>
-    ensures { IfOk result (λ numbers. AreMaybeNumbers value.now numbers) }
+    ensures { IfOk result (λ numbers. HaveNumbers quantities.Length value.now → AreMaybeNumbers value.now numbers) }
 {
     match value {
-        Some(text) => Ok(Some(Entries::new(numbers_in(alloc, Quantity::Length, text.bytes())?))),
+        Some(text) => Ok(Some(Entries::new(list_numbers(alloc, Quantity::Length, text.bytes())?))),
         None => Ok(None),
     }
 }

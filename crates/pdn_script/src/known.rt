@@ -1,14 +1,15 @@
 //! What the commands so far have named.
 ghost use Rattle.std.specs.Prelude.{◌≡◌, IfOk, OnOk, map, None};
 ghost use Rattle.pdn_script.specs.Known.{nothing_known, known_after, or_empty, domain_name as name_of_domain, or_last, after_domain, after_grid, after_ring, after_command, after_first};
-ghost use Rattle.reading.specs.Word.{token};
+ghost use Rattle.reading.specs.Word.{heard_token};
 ghost use Rattle.pdn_script.specs.Given.{value as value_of};
 
 use crate::given::value;
 use crate::names::Names;
 use crate::sort::is_end;
 use crate::text::Bytes;
-use reading::Word;
+use crate::value::Value;
+use reading::Heard;
 use script_options::{Command, ScriptOption, command_named};
 use std::alloc::{AllocError, Global};
 
@@ -46,8 +47,8 @@ pub(crate) fn or_empty<'a>(text: &Option<Bytes<'a>>) -> &'a [u8]
 }
 
 /// The name of a domain: its own, or that of its region.
-pub(crate) fn domain_name<'a>(words: &[Word<'a>]) -> &'a [u8]
-    ensures { result.now ≡ name_of_domain (map token words.now) }
+pub(crate) fn domain_name<'a>(words: &[Heard<'a, Value>]) -> &'a [u8]
+    ensures { result.now ≡ name_of_domain (map heard_token words.now) }
 {
     match value(ScriptOption::Name, words) {
         Some(name) => name.bytes(),
@@ -87,8 +88,8 @@ impl<'a> Known<'a> {
     }
 
     /// One more domain.
-    fn take_domain(&mut self, words: &[Word<'a>]) -> Result<(), AllocError>
-        ensures { OnOk result (self.new ≡ after_domain self.old (map token words.now)) }
+    fn take_domain(&mut self, words: &[Heard<'a, Value>]) -> Result<(), AllocError>
+        ensures { OnOk result (self.new ≡ after_domain self.old (map heard_token words.now)) }
     {
         let name = domain_name(words);
         self.domains.add(name)?;
@@ -104,8 +105,8 @@ impl<'a> Known<'a> {
     }
 
     /// One more grid.
-    fn take_grid(&mut self, words: &[Word<'a>]) -> Result<(), AllocError>
-        ensures { OnOk result (self.new ≡ after_grid self.old (map token words.now)) }
+    fn take_grid(&mut self, words: &[Heard<'a, Value>]) -> Result<(), AllocError>
+        ensures { OnOk result (self.new ≡ after_grid self.old (map heard_token words.now)) }
     {
         let name = or_empty(&value(ScriptOption::Name, words));
         self.grids.add(name)?;
@@ -114,15 +115,19 @@ impl<'a> Known<'a> {
     }
 
     /// One more ring.
-    fn take_ring(&mut self, words: &[Word<'a>]) -> Result<(), AllocError>
-        ensures { OnOk result (self.new ≡ after_ring self.old (map token words.now)) }
+    fn take_ring(&mut self, words: &[Heard<'a, Value>]) -> Result<(), AllocError>
+        ensures { OnOk result (self.new ≡ after_ring self.old (map heard_token words.now)) }
     {
         self.ringed.add(or_last(&value(ScriptOption::Grid, words), &self.last_grid))
     }
 
     /// One more command.
-    fn take_command(&mut self, command: Command, words: &[Word<'a>]) -> Result<(), AllocError>
-        ensures { OnOk result (self.new ≡ after_command self.old command (map token words.now)) }
+    fn take_command(
+        &mut self,
+        command: Command,
+        words: &[Heard<'a, Value>],
+    ) -> Result<(), AllocError>
+        ensures { OnOk result (self.new ≡ after_command self.old command (map heard_token words.now)) }
     {
         match command {
             Command::SetVoltageDomain => self.take_domain(words),
@@ -141,22 +146,26 @@ impl<'a> Known<'a> {
     }
 
     /// One more unit, by its first word.
-    fn take_first(&mut self, first: &Word<'a>, words: &[Word<'a>]) -> Result<(), AllocError>
-        ensures { OnOk result (self.new ≡ after_first self.old (token first.now) (map token words.now)) }
+    fn take_first(
+        &mut self,
+        first: &Heard<'a, Value>,
+        words: &[Heard<'a, Value>],
+    ) -> Result<(), AllocError>
+        ensures { OnOk result (self.new ≡ after_first self.old (heard_token first.now) (map heard_token words.now)) }
     {
         if self.passing {
-            self.passing = !is_end(first);
+            self.passing = !is_end(&first.word);
             return Ok(());
         }
-        if is_end(first) {
+        if is_end(&first.word) {
             return Ok(());
         }
-        self.take_command(command_named(first.text), words)
+        self.take_command(command_named(first.word.text), words)
     }
 
     /// One more unit.
-    pub(crate) fn take_unit(&mut self, unit: &[Word<'a>]) -> Result<(), AllocError>
-        ensures { OnOk result (self.new ≡ known_after self.old (map token unit.now)) }
+    pub(crate) fn take_unit(&mut self, unit: &[Heard<'a, Value>]) -> Result<(), AllocError>
+        ensures { OnOk result (self.new ≡ known_after self.old (map heard_token unit.now)) }
     {
         match unit.split_first() {
             None => Ok(()),

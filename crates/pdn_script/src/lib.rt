@@ -10,7 +10,6 @@ mod field;
 mod format;
 mod given;
 mod held;
-mod keeping;
 mod known;
 mod late;
 mod laws;
@@ -22,6 +21,7 @@ mod section;
 mod sort;
 mod statement;
 mod text;
+mod value;
 
 pub use error::{ScriptError, ScriptKind};
 pub use laws::texts_have_one_script;

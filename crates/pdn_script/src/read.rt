@@ -1,4 +1,4 @@
-ghost use Rattle.std.specs.Prelude.{◌≡◌, List, IfOk};
+ghost use Rattle.std.specs.Prelude.{List, IfOk};
 ghost use Rattle.pdn_script.specs.Format.{ReadsScript};
 ghost use Rattle.pdn_script.specs.Limits.{ScriptKeeps};
 ghost use Rattle.pdn_script.specs.Record.{IsScript};
@@ -8,11 +8,10 @@ ghost use Rattle.reading.specs.Word.{Token};
 use crate::error::ScriptError;
 use crate::format::ScriptFormat;
 use crate::held::Held;
-use crate::keeping::keeps;
 use crate::record::Script;
 use entry_list::Entries;
 use reading::{ReadError, read_into};
-use std::alloc::{AllocError, Global};
+use std::alloc::Global;
 use text_lex::Mode;
 
 /// Reads a script.
@@ -31,39 +30,15 @@ pub fn read_script(alloc: Global, text: &[u8]) -> Result<Script, ScriptError>
         return Err(ReadError::want());
     };
     match read_into(alloc, &ScriptFormat, &mut held, text, Mode::Tcl) {
-        Ok(()) => match script_in(alloc, held) {
-            Ok(script) => Ok(script),
-            Err(_) => Err(ReadError::want()),
-        },
+        Ok(()) => Ok(script_of(held)),
         Err(error) => Err(error),
-    }
-}
-
-/// The script that has been read.
-fn script_in(alloc: Global, held: Held<'_>) -> Result<Script, AllocError>
-    ensures is { (units : List (List Token)) → Holds units held.entry → IfOk result (IsScript units) }
-    ensures keeps { IfOk result ScriptKeeps }
-{
-    let script = script_of(held);
-    kept(alloc, script)
-}
-
-/// The script. Where it does not keep its limits the answer is want of memory, which no clause ties to anything; it never
-/// comes, since a script that shows no fault keeps them.
-fn kept(alloc: Global, script: Script) -> Result<Script, AllocError>
-    ensures is { IfOk result (λ kept. kept ≡ script) }
-    ensures keeps { IfOk result ScriptKeeps }
-{
-    if keeps(alloc, &script)? {
-        Ok(script)
-    } else {
-        Err(AllocError)
     }
 }
 
 /// The script that the units say.
 fn script_of(held: Held<'_>) -> Script
-    ensures { (units : List (List Token)) → Holds units held.entry → IsScript units result }
+    ensures is { (units : List (List Token)) → Holds units held.entry → IsScript units result }
+    ensures keeps { (units : List (List Token)) → Holds units held.entry → ScriptKeeps result }
 {
     let lists = held.lists;
     Script {

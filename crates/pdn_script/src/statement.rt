@@ -1,19 +1,27 @@
 //! What a command says.
-ghost use Rattle.std.specs.Prelude.{◌≡◌, map, IfOk};
+ghost use Rattle.std.specs.Prelude.{◌≡◌, [], List, map, IfOk};
 ghost use Rattle.pdn_script.specs.Record.{IsDomain, IsGrid, IsStripe, IsRing, IsConnect, SaysCommand, SaysFirst, Says};
-ghost use Rattle.reading.specs.Word.{token};
+ghost use Rattle.pdn_script.specs.Format.{format};
+ghost use Rattle.pdn_script.specs.Known.{known_of};
+ghost use Rattle.pdn_script.specs.inside.Value.{AreSaid, IsGiven, IsWhole, says};
+ghost use Rattle.reading.specs.Grammar.{AreHeard, IsTaken};
+ghost use Rattle.reading.specs.Word.{Token, heard_token};
+ghost use Rattle.script_options.specs.declared.command.Command.{Command as Asked};
+ghost use Rattle.script_options.specs.declared.option.ScriptOption.TheVariants as options;
+ghost use Rattle.script_options.specs.Command.{command_named as command_of_text};
 
 use crate::field::{
-    maybe_count, maybe_name, maybe_names, maybe_number, maybe_numbers, maybe_start, name, names,
-    number, number_or_zero, numbers, start_or_ground,
+    maybe_count, maybe_lengths, maybe_name, maybe_names, maybe_start, name, names, numbers,
+    start_or_ground,
 };
-use crate::given::{stands, value};
+use crate::given::{number, stands, value};
 use crate::known::{Known, domain_name, or_last};
 use crate::record::{Connect, Domain, GridRule, Ring, Stripe};
 use crate::sort::is_end;
+use crate::value::Value;
 use outside::Name;
-use reading::Word;
-use script_options::{Command, Quantity, ScriptOption, command_named};
+use reading::Heard;
+use script_options::{Command, Quantity, ScriptOption, command_named, numbers_keep_limits};
 use std::alloc::{AllocError, Global};
 
 /// What a command says.
@@ -27,8 +35,12 @@ pub(crate) enum Statement {
 }
 
 /// What `set_voltage_domain` says.
-fn domain_of(alloc: Global, first: &Word<'_>, words: &[Word<'_>]) -> Result<Domain, AllocError>
-    ensures { IfOk result (λ domain. IsDomain (token first.now) (map token words.now) domain) }
+fn domain_of(
+    alloc: Global,
+    first: &Heard<'_, Value>,
+    words: &[Heard<'_, Value>],
+) -> Result<Domain, AllocError>
+    ensures { IfOk result (λ domain. IsDomain (heard_token first.now) (map heard_token words.now) domain) }
 {
     let own_name = Name::new(alloc, domain_name(words))?;
     let power = name(alloc, &value(ScriptOption::Power, words))?;
@@ -39,7 +51,7 @@ fn domain_of(alloc: Global, first: &Word<'_>, words: &[Word<'_>]) -> Result<Doma
         power,
         ground,
         region,
-        place: first.place,
+        place: first.word.place,
     })
 }
 
@@ -47,10 +59,11 @@ fn domain_of(alloc: Global, first: &Word<'_>, words: &[Word<'_>]) -> Result<Doma
 fn grid_of<'a>(
     alloc: Global,
     known: &Known<'a>,
-    first: &Word<'a>,
-    words: &[Word<'a>],
+    first: &Heard<'a, Value>,
+    words: &[Heard<'a, Value>],
 ) -> Result<GridRule, AllocError>
-    ensures { IfOk result (λ grid. IsGrid known.now (token first.now) (map token words.now) grid) }
+    ensures { IfOk result (λ grid. (command : Asked) → AreSaid known.now command [] words.now →
+        IsGrid known.now (heard_token first.now) (map heard_token words.now) grid) }
 {
     let own_name = name(alloc, &value(ScriptOption::Name, words))?;
     let domain = or_last(
@@ -60,7 +73,7 @@ fn grid_of<'a>(
     let voltage_domains = Name::new(alloc, domain)?;
     let pins = maybe_names(alloc, &value(ScriptOption::Pins, words))?;
     let orient = maybe_names(alloc, &value(ScriptOption::Orient, words))?;
-    let halo = maybe_numbers(alloc, &value(ScriptOption::Halo, words))?;
+    let halo = maybe_lengths(alloc, &value(ScriptOption::Halo, words))?;
     let cells = maybe_names(alloc, &value(ScriptOption::Cells, words))?;
     let instances = maybe_names(alloc, &value(ScriptOption::Instances, words))?;
     Ok(GridRule {
@@ -76,7 +89,7 @@ fn grid_of<'a>(
         default: stands(ScriptOption::Default, words),
         grid_over_boundary: stands(ScriptOption::GridOverBoundary, words),
         grid_over_pg_pins: stands(ScriptOption::GridOverPgPins, words),
-        place: first.place,
+        place: first.word.place,
     })
 }
 
@@ -84,34 +97,31 @@ fn grid_of<'a>(
 fn stripe_of<'a>(
     alloc: Global,
     known: &Known<'a>,
-    first: &Word<'a>,
-    words: &[Word<'a>],
+    first: &Heard<'a, Value>,
+    words: &[Heard<'a, Value>],
 ) -> Result<Stripe, AllocError>
-    ensures { IfOk result (λ stripe. IsStripe known.now (token first.now) (map token words.now) stripe) }
+    ensures { IfOk result (λ stripe. (command : Asked) → AreSaid known.now command [] words.now →
+        IsGiven options.Width (map heard_token words.now) → IsStripe known.now (heard_token first.now) (map heard_token words.now) stripe) }
 {
+    numbers_keep_limits();
     let layer = name(alloc, &value(ScriptOption::Layer, words))?;
-    let width = number(Quantity::Width, &value(ScriptOption::Width, words))?;
-    let pitch = maybe_number(Quantity::Width, &value(ScriptOption::Pitch, words))?;
     let own_grid = or_last(&value(ScriptOption::Grid, words), &known.last_grid);
     let grid = Name::new(alloc, own_grid)?;
-    let spacing = maybe_number(Quantity::Length, &value(ScriptOption::Spacing, words))?;
-    let offset = number_or_zero(&value(ScriptOption::Offset, words))?;
-    let number_of_straps = maybe_count(&value(ScriptOption::NumberOfStraps, words))?;
     let nets = maybe_names(alloc, &value(ScriptOption::Nets, words))?;
     Ok(Stripe {
         layer,
-        width,
-        pitch,
+        width: number(ScriptOption::Width, words).unwrap_or(0),
+        pitch: number(ScriptOption::Pitch, words),
         grid,
-        spacing,
-        offset,
+        spacing: number(ScriptOption::Spacing, words),
+        offset: number(ScriptOption::Offset, words).unwrap_or(0),
         followpins: stands(ScriptOption::Followpins, words),
         extend_to_core_ring: stands(ScriptOption::ExtendToCoreRing, words),
         extend_to_boundary: stands(ScriptOption::ExtendToBoundary, words),
-        number_of_straps,
+        number_of_straps: maybe_count(number(ScriptOption::NumberOfStraps, words)),
         starts_with: maybe_start(&value(ScriptOption::StartsWith, words)),
         nets,
-        place: first.place,
+        place: first.word.place,
     })
 }
 
@@ -119,10 +129,11 @@ fn stripe_of<'a>(
 fn ring_of<'a>(
     alloc: Global,
     known: &Known<'a>,
-    first: &Word<'a>,
-    words: &[Word<'a>],
+    first: &Heard<'a, Value>,
+    words: &[Heard<'a, Value>],
 ) -> Result<Ring, AllocError>
-    ensures { IfOk result (λ ring. IsRing known.now (token first.now) (map token words.now) ring) }
+    ensures { IfOk result (λ ring. (command : Asked) → AreSaid known.now command [] words.now →
+        IsRing known.now (heard_token first.now) (map heard_token words.now) ring) }
 {
     let layers = names(alloc, &value(ScriptOption::Layers, words))?;
     let widths = numbers(alloc, Quantity::Width, &value(ScriptOption::Widths, words))?;
@@ -148,7 +159,7 @@ fn ring_of<'a>(
         starts_with: maybe_start(&value(ScriptOption::StartsWith, words)),
         nets,
         add_connect: stands(ScriptOption::AddConnect, words),
-        place: first.place,
+        place: first.word.place,
     })
 }
 
@@ -156,22 +167,22 @@ fn ring_of<'a>(
 fn connect_of<'a>(
     alloc: Global,
     known: &Known<'a>,
-    first: &Word<'a>,
-    words: &[Word<'a>],
+    first: &Heard<'a, Value>,
+    words: &[Heard<'a, Value>],
 ) -> Result<Connect, AllocError>
-    ensures { IfOk result (λ connect. IsConnect known.now (token first.now) (map token words.now) connect) }
+    ensures { IfOk result (λ connect. (command : Asked) → AreSaid known.now command [] words.now →
+        IsConnect known.now (heard_token first.now) (map heard_token words.now) connect) }
 {
+    numbers_keep_limits();
     let layers = names(alloc, &value(ScriptOption::Layers, words))?;
     let own_grid = or_last(&value(ScriptOption::Grid, words), &known.last_grid);
     let grid = Name::new(alloc, own_grid)?;
-    let max_rows = maybe_count(&value(ScriptOption::MaxRows, words))?;
-    let max_columns = maybe_count(&value(ScriptOption::MaxColumns, words))?;
     Ok(Connect {
         layers,
         grid,
-        max_rows,
-        max_columns,
-        place: first.place,
+        max_rows: maybe_count(number(ScriptOption::MaxRows, words)),
+        max_columns: maybe_count(number(ScriptOption::MaxColumns, words)),
+        place: first.word.place,
     })
 }
 
@@ -179,12 +190,13 @@ fn connect_of<'a>(
 fn command_says<'a>(
     alloc: Global,
     known: &Known<'a>,
-    first: &Word<'a>,
-    words: &[Word<'a>],
+    first: &Heard<'a, Value>,
+    words: &[Heard<'a, Value>],
 ) -> Result<Option<Statement>, AllocError>
-    ensures { IfOk result (λ told. SaysFirst known.now (token first.now) (map token words.now) told) }
+    ensures { IfOk result (λ told. IsWhole known.now (command_of_text first.now.word.text.now) words.now →
+        SaysFirst known.now (heard_token first.now) (map heard_token words.now) told) }
 {
-    match command_named(first.text) {
+    match command_named(first.word.text) {
         Command::SetVoltageDomain => Ok(Some(Statement::Domain(domain_of(alloc, first, words)?))),
         Command::DefinePdnGrid => Ok(Some(Statement::Grid(grid_of(alloc, known, first, words)?))),
         Command::AddPdnStripe => Ok(Some(Statement::Stripe(stripe_of(
@@ -202,14 +214,16 @@ fn command_says<'a>(
 pub(crate) fn unit_says<'a>(
     alloc: Global,
     known: &Known<'a>,
-    unit: &[Word<'a>],
+    unit: &[Heard<'a, Value>],
 ) -> Result<Option<Statement>, AllocError>
-    ensures { IfOk result (λ told. Says known.now (map token unit.now) told) }
+    ensures { IfOk result (λ told. (units : List (List Token)) → known.now ≡ known_of units →
+        IsTaken format units (map heard_token unit.now) → AreHeard (says units) [] unit.now →
+        Says known.now (map heard_token unit.now) told) }
 {
     match unit.split_first() {
         None => Ok(None),
         Some((first, words)) => {
-            if known.passing || is_end(first) {
+            if known.passing || is_end(&first.word) {
                 Ok(None)
             } else {
                 command_says(alloc, known, first, words)

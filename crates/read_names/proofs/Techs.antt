@@ -26,11 +26,11 @@ use Rattle.lef_tech.specs.Number.{place_of}
 use Rattle.lef_tech.specs.Pattern.{the, word as key, name, top, pattern}
 use Rattle.lef_tech.specs.Record.{Told, stated_one, stated, no_facts, with_fact, facts_of, is_head, body_of, density_of, layer_by, layer_of, with_layer, layers_of, wires_of, cuts_of, parts_of, fits, rule_by, rule_with, rule_between, rule_across, rule_among, rule_of, with_rule, rules_of, tech_of}
 use Rattle.lef_tech.specs.Section.{section_number, all_sections, listed as section_listed}
-use Rattle.lef_tech.specs.Shape.{shape_of}
+use Rattle.lef_tech.specs.Shape.{shape_of, shape_in, text_at}
 use Rattle.lef_tech.specs.Sort.{number_of, all_sorts, listed, sort_of, sort_with, sort_of_text}
 use Rattle.lef_tech.specs.State.{first_state}
-use Rattle.lef_tech.specs.Statement.{Saying, Says, say_head, say_top, say_type, say_start, say_alone, say_wire_three, say_wire_four, say_wire, say_cut_three, say_cut_four, say_cut, say_table, say_values, say_rule, say_wire_part, say_cut_part, saying}
-use Rattle.lef_tech.specs.Statement.Saying.{Plain, Of, OfTwo, OfCorners}
+use Rattle.lef_tech.specs.Statement.{Saying, Says, say_head, say_top, say_type, say_start, say_wire_three, say_wire_four, say_wire, say_cut_three, say_cut_four, say_cut, say_point, say_table, say_value, say_values, say_rule, say_wire_part, say_cut_part, saying}
+use Rattle.lef_tech.specs.Statement.Saying.{Plain, Named as OfName, Of, Alone, OfTwo, OfCorners}
 use Rattle.lef_tech.specs.Turn.{named, state_after, state_from, state_of}
 use Rattle.read_names.specs.Laws.Words.{IsGood, AreGood, good-front, good-rest, good_split, good_heard}
 
@@ -97,11 +97,14 @@ by_section P all s = in_list P all_sections all (section_number s) s (section_li
 abbrev semicolon : Sort
 semicolon = sort_of_text (codes ";")
 
-abbrev width : Sort
-width = sort_of_text (codes "WIDTH")
+abbrev spacing_word : Sort
+spacing_word = sort_of_text (codes "SPACING")
 
-abbrev cut_area : Sort
-cut_area = sort_of_text (codes "CUTAREA")
+abbrev resistance_word : Sort
+resistance_word = sort_of_text (codes "RESISTANCE")
+
+abbrev current_word : Sort
+current_word = sort_of_text (codes "DCCURRENTDENSITY")
 
 abbrev layer_word : Sort
 layer_word = sort_of_text (codes "LAYER")
@@ -218,11 +221,13 @@ Says-names None = Unit {0}
 Says-names (Some s) = Names s
 
 -- What is said names so, whatever its numbers are.
-abbrev Tells : Saying → Type 0
-Tells (Plain told) = Says-names told
-Tells (Of quantity word make) = (v : ℕ) → Names (make v)
-Tells (OfTwo quantity a b make) = (v w : ℕ) → Names (make v w)
-Tells (OfCorners x1 y1 x2 y2) = Unit {0}
+abbrev Tells : List Token → Saying → Type 0
+Tells u (Plain told) = Says-names told
+Tells u (OfName make) = Names (make (text_at u 1))
+Tells u (Of quantity at make) = (v : ℕ) → Names (make v)
+Tells u (Alone quantity at make) = (v : ℕ) → Names (make v)
+Tells u (OfTwo quantity a b make) = (v w : ℕ) → Names (make v w)
+Tells u OfCorners = Unit {0}
 
 -- One that says the type of a layer.
 typed : (s : Statement) → ((others : List Statement) → layers_of (s ∷ others) ≡ layers_of others) → ((others : List Statement) → rules_of (s ∷ others) ≡ rules_of others)
@@ -260,32 +265,32 @@ rule_named s text layers kind rules h = record {
 
 -- ## what units say
 
-told_names : (s : Saying) (told : Option Statement) → Tells s → Says s told → Says-names told
-told_names (Plain statement) told h e = subst Says-names (sym e) h
-told_names (Of quantity word make) told h (v, is, e) = subst Says-names (sym e) (h v)
-told_names (OfTwo quantity a b make) told h (v, w, is, also, e) = subst Says-names (sym e) (h v w)
-told_names (OfCorners x1 y1 x2 y2) told h (x, y, is, also, e) = subst Says-names (sym e) (plain _ (λ o. refl) (λ f. refl) (λ o. refl))
+told_names : (u : List Token) (s : Saying) (told : Option Statement) → Tells u s → Says u s told → Says-names told
+told_names u (Plain statement) told h e = subst Says-names (sym e) h
+told_names u (OfName make) told h e = subst Says-names (sym e) h
+told_names u (Of quantity at make) told h (v, is, e) = subst Says-names (sym e) (h v)
+told_names u (Alone quantity at make) told h (v, is, e) = subst Says-names (sym e) (h v)
+told_names u (OfTwo quantity a b make) told h (v, w, is, also, e) = subst Says-names (sym e) (h v w)
+told_names u OfCorners told h (x, y, is, also, e) = subst Says-names (sym e) (plain _ (λ o. refl) (λ f. refl) (λ o. refl))
 
-tells_if : (b : Bool) (x y : Saying) → Tells x → Tells y → Tells (if b then x else y)
-tells_if true x y h k = h
-tells_if false x y h k = k
+spacing : (u : List Token) (second last : Sort) → Tells u (say_wire_three spacing_word second last)
+spacing u second last = by_sort (λ s. Tells u (say_wire_three spacing_word second s)) (search plain) last
 
-alone : (quantity : Quantity) (w : Token) (last : Sort) (make : ℕ → Statement) → ((v : ℕ) → Names (make v)) → Tells (say_alone quantity w last make)
-alone quantity w last make h = tells_if (the semicolon last) (Of quantity w make) (Plain None) h tt
+wire_three : (u : List Token) (a second last : Sort) → Tells u (say_wire_three a second last)
+wire_three u a second last = by_sort (λ s. Tells u (say_wire_three s second last)) (search (plain, spacing)) a
 
-either : (b : Bool) (first second : Quantity) (v w : Token) (make other : ℕ → Statement) → ((n : ℕ) → Names (make n)) → ((n : ℕ) → Names (other n))
-    → Tells (if b then Of first v make else Of second w other)
-either b first second v w make other h k = tells_if b (Of first v make) (Of second w other) h k
+wire_resistance : (u : List Token) (third last : Sort) → Tells u (say_wire_four resistance_word third last)
+wire_resistance u third last = by_sort (λ s. Tells u (say_wire_four resistance_word third s)) (search plain) last
 
-wire_three : (a : Sort) (second : Token) (last : Sort) → Tells (say_wire_three a second last)
-wire_three a second last = by_sort (λ s. Tells (say_wire_three s second last)) (search (plain, alone)) a
+wire_current : (u : List Token) (third last : Sort) → Tells u (say_wire_four current_word third last)
+wire_current u third last = by_sort (λ s. Tells u (say_wire_four current_word s last)) (search plain) third
 
-wire_four : (a : Sort) (third last : Token) → Tells (say_wire_four a third last)
-wire_four a third last = by_sort (λ s. Tells (say_wire_four s third last)) (search (plain, alone, either)) a
+wire_four : (u : List Token) (a third last : Sort) → Tells u (say_wire_four a third last)
+wire_four u a third last = by_sort (λ s. Tells u (say_wire_four s third last)) (search (plain, wire_resistance, wire_current)) a
 
-wire : (u : List Token) → Tells (say_wire (shape_of u))
-wire (word ∷ second ∷ last ∷ []) = wire_three (sort_of word) second (sort_of last)
-wire (word ∷ second ∷ third ∷ last ∷ []) = wire_four (sort_of word) third last
+wire : (u : List Token) → Tells u (say_wire (shape_in u))
+wire (word ∷ second ∷ last ∷ []) = wire_three (word ∷ second ∷ last ∷ []) (sort_of word) (sort_of second) (sort_of last)
+wire (word ∷ second ∷ third ∷ last ∷ []) = wire_four (word ∷ second ∷ third ∷ last ∷ []) (sort_of word) (sort_of third) (sort_of last)
 wire [] = tt
 wire (a ∷ []) = tt
 wire (a ∷ b ∷ []) = tt
@@ -293,15 +298,21 @@ wire (a ∷ b ∷ c ∷ d ∷ e ∷ []) = tt
 wire (a ∷ b ∷ c ∷ d ∷ e ∷ f ∷ []) = tt
 wire (a ∷ b ∷ c ∷ d ∷ e ∷ f ∷ g ∷ u) = tt
 
-cut_three : (a : Sort) (second : Token) (last : Sort) → Tells (say_cut_three a second last)
-cut_three a second last = by_sort (λ s. Tells (say_cut_three s second last)) (search (plain, alone)) a
+cut_resistance : (u : List Token) (last : Sort) → Tells u (say_cut_three resistance_word last)
+cut_resistance u last = by_sort (λ s. Tells u (say_cut_three resistance_word s)) (search plain) last
 
-cut_four : (a : Sort) (third last : Token) → Tells (say_cut_four a third last)
-cut_four a third last = by_sort (λ s. Tells (say_cut_four s third last)) (search (plain, either)) a
+cut_three : (u : List Token) (a last : Sort) → Tells u (say_cut_three a last)
+cut_three u a last = by_sort (λ s. Tells u (say_cut_three s last)) (search (plain, cut_resistance)) a
 
-cut : (u : List Token) → Tells (say_cut (shape_of u))
-cut (word ∷ second ∷ last ∷ []) = cut_three (sort_of word) second (sort_of last)
-cut (word ∷ second ∷ third ∷ last ∷ []) = cut_four (sort_of word) third last
+cut_current : (u : List Token) (third : Sort) → Tells u (say_cut_four current_word third)
+cut_current u third = by_sort (λ s. Tells u (say_cut_four current_word s)) (search plain) third
+
+cut_four : (u : List Token) (a third : Sort) → Tells u (say_cut_four a third)
+cut_four u a third = by_sort (λ s. Tells u (say_cut_four s third)) (search (plain, cut_current)) a
+
+cut : (u : List Token) → Tells u (say_cut (shape_in u))
+cut (word ∷ second ∷ last ∷ []) = cut_three (word ∷ second ∷ last ∷ []) (sort_of word) (sort_of last)
+cut (word ∷ second ∷ third ∷ last ∷ []) = cut_four (word ∷ second ∷ third ∷ last ∷ []) (sort_of word) (sort_of third)
 cut [] = tt
 cut (a ∷ []) = tt
 cut (a ∷ b ∷ []) = tt
@@ -309,8 +320,11 @@ cut (a ∷ b ∷ c ∷ d ∷ e ∷ []) = tt
 cut (a ∷ b ∷ c ∷ d ∷ e ∷ f ∷ []) = tt
 cut (a ∷ b ∷ c ∷ d ∷ e ∷ f ∷ g ∷ u) = tt
 
-table : (points values : Quantity) (u : List Token) → Tells (say_table points values (shape_of u))
-table points values (word ∷ []) = λ v. plain _ (λ o. refl) (λ f. refl) (λ o. refl)
+point : (u : List Token) (points : Quantity) (a : Sort) → Tells u (say_point points a)
+point u points a = by_sort (λ s. Tells u (say_point points s)) (search plain) a
+
+table : (points values : Quantity) (u : List Token) → Tells u (say_table points values (shape_in u))
+table points values (word ∷ []) = point (word ∷ []) points (sort_of word)
 table points values (stop ∷ word ∷ value ∷ []) = λ v. plain _ (λ o. refl) (λ f. refl) (λ o. refl)
 table points values [] = tt
 table points values (a ∷ b ∷ []) = tt
@@ -319,8 +333,11 @@ table points values (a ∷ b ∷ c ∷ d ∷ e ∷ []) = tt
 table points values (a ∷ b ∷ c ∷ d ∷ e ∷ f ∷ []) = tt
 table points values (a ∷ b ∷ c ∷ d ∷ e ∷ f ∷ g ∷ u) = tt
 
-entries : (values : Quantity) (u : List Token) → Tells (say_values values (shape_of u))
-entries values (word ∷ []) = tells_if (the semicolon (sort_of word)) (Plain None) (Of values word _) tt (λ v. plain _ (λ o. refl) (λ f. refl) (λ o. refl))
+entry : (u : List Token) (values : Quantity) (a : Sort) → Tells u (say_value values a)
+entry u values a = by_sort (λ s. Tells u (say_value values s)) (search plain) a
+
+entries : (values : Quantity) (u : List Token) → Tells u (say_values values (shape_in u))
+entries values (word ∷ []) = entry (word ∷ []) values (sort_of word)
 entries values [] = tt
 entries values (a ∷ b ∷ []) = tt
 entries values (a ∷ b ∷ c ∷ []) = tt
@@ -329,7 +346,7 @@ entries values (a ∷ b ∷ c ∷ d ∷ e ∷ []) = tt
 entries values (a ∷ b ∷ c ∷ d ∷ e ∷ f ∷ []) = tt
 entries values (a ∷ b ∷ c ∷ d ∷ e ∷ f ∷ g ∷ u) = tt
 
-part : (reference : Option LayerRef) (u : List Token) → Tells (say_rule reference (shape_of u))
+part : (reference : Option LayerRef) (u : List Token) → Tells u (say_rule reference (shape_in u))
 part reference (word ∷ layer ∷ stop ∷ []) = plain _ (λ o. refl) (λ f. refl) (λ o. refl)
 part reference [] = tt
 part reference (a ∷ []) = tt
@@ -339,20 +356,35 @@ part reference (a ∷ b ∷ c ∷ d ∷ e ∷ []) = tt
 part reference (a ∷ b ∷ c ∷ d ∷ e ∷ f ∷ []) = tt
 part reference (a ∷ b ∷ c ∷ d ∷ e ∷ f ∷ g ∷ u) = tt
 
-wire_part : (reference : Option LayerRef) (u : List Token) → Tells (say_wire_part reference (shape_of u))
+wire_part_four : (u : List Token) (reference : Option LayerRef) (a b c d : Sort) → Tells u (say_wire_part reference (shape_of (a ∷ b ∷ c ∷ d ∷ [])))
+wire_part_four u reference a b c d = by_sort (λ s. Tells u (say_wire_part reference (shape_of (s ∷ b ∷ c ∷ d ∷ [])))) (search plain) a
+
+wire_part_five : (u : List Token) (reference : Option LayerRef) (a b c d e : Sort) → Tells u (say_wire_part reference (shape_of (a ∷ b ∷ c ∷ d ∷ e ∷ [])))
+wire_part_five u reference a b c d e = by_sort (λ s. Tells u (say_wire_part reference (shape_of (s ∷ b ∷ c ∷ d ∷ e ∷ [])))) (search plain) a
+
+wire_part : (reference : Option LayerRef) (u : List Token) → Tells u (say_wire_part reference (shape_in u))
 wire_part reference (word ∷ layer ∷ stop ∷ []) = plain _ (λ o. refl) (λ f. refl) (λ o. refl)
-wire_part reference (word ∷ first ∷ second ∷ stop ∷ []) = λ v w. plain _ (λ o. refl) (λ f. refl) (λ o. refl)
-wire_part reference (word ∷ first ∷ to ∷ second ∷ stop ∷ []) = λ v w. plain _ (λ o. refl) (λ f. refl) (λ o. refl)
+wire_part reference (a ∷ b ∷ c ∷ d ∷ []) = wire_part_four (a ∷ b ∷ c ∷ d ∷ []) reference (sort_of a) (sort_of b) (sort_of c) (sort_of d)
+wire_part reference (a ∷ b ∷ c ∷ d ∷ e ∷ []) = wire_part_five (a ∷ b ∷ c ∷ d ∷ e ∷ []) reference (sort_of a) (sort_of b) (sort_of c) (sort_of d) (sort_of e)
 wire_part reference [] = tt
 wire_part reference (a ∷ []) = tt
 wire_part reference (a ∷ b ∷ []) = tt
 wire_part reference (a ∷ b ∷ c ∷ d ∷ e ∷ f ∷ []) = tt
 wire_part reference (a ∷ b ∷ c ∷ d ∷ e ∷ f ∷ g ∷ u) = tt
 
-cut_part : (reference : Option LayerRef) (u : List Token) → Tells (say_cut_part reference (shape_of u))
-cut_part reference (word ∷ second ∷ stop ∷ []) = tells_if (the layer_word (sort_of word)) (Plain _) (Of _ second _) (plain _ (λ o. refl) (λ f. refl) (λ o. refl)) (λ v. plain _ (λ o. refl) (λ f. refl) (λ o. refl))
-cut_part reference (word ∷ first ∷ by ∷ second ∷ stop ∷ []) = λ v w. plain _ (λ o. refl) (λ f. refl) (λ o. refl)
-cut_part reference (word ∷ x1 ∷ y1 ∷ x2 ∷ y2 ∷ stop ∷ []) = tt
+cut_part_three : (u : List Token) (reference : Option LayerRef) (a b c : Sort) → Tells u (say_cut_part reference (shape_of (a ∷ b ∷ c ∷ [])))
+cut_part_three u reference a b c = by_sort (λ s. Tells u (say_cut_part reference (shape_of (s ∷ b ∷ c ∷ [])))) (search plain) a
+
+cut_part_five : (u : List Token) (reference : Option LayerRef) (a b c d e : Sort) → Tells u (say_cut_part reference (shape_of (a ∷ b ∷ c ∷ d ∷ e ∷ [])))
+cut_part_five u reference a b c d e = by_sort (λ s. Tells u (say_cut_part reference (shape_of (s ∷ b ∷ c ∷ d ∷ e ∷ [])))) (search plain) a
+
+cut_part_six : (u : List Token) (reference : Option LayerRef) (a b c d e f : Sort) → Tells u (say_cut_part reference (shape_of (a ∷ b ∷ c ∷ d ∷ e ∷ f ∷ [])))
+cut_part_six u reference a b c d e f = by_sort (λ s. Tells u (say_cut_part reference (shape_of (s ∷ b ∷ c ∷ d ∷ e ∷ f ∷ [])))) (search plain) a
+
+cut_part : (reference : Option LayerRef) (u : List Token) → Tells u (say_cut_part reference (shape_in u))
+cut_part reference (a ∷ b ∷ c ∷ []) = cut_part_three (a ∷ b ∷ c ∷ []) reference (sort_of a) (sort_of b) (sort_of c)
+cut_part reference (a ∷ b ∷ c ∷ d ∷ e ∷ []) = cut_part_five (a ∷ b ∷ c ∷ d ∷ e ∷ []) reference (sort_of a) (sort_of b) (sort_of c) (sort_of d) (sort_of e)
+cut_part reference (a ∷ b ∷ c ∷ d ∷ e ∷ f ∷ []) = cut_part_six (a ∷ b ∷ c ∷ d ∷ e ∷ f ∷ []) reference (sort_of a) (sort_of b) (sort_of c) (sort_of d) (sort_of e) (sort_of f)
 cut_part reference [] = tt
 cut_part reference (a ∷ []) = tt
 cut_part reference (a ∷ b ∷ []) = tt
@@ -379,7 +411,7 @@ kind a = elim (type_is a) [
   | inr (inr none) ↦ subst Says-names (sym none) tt
 ]
 
-start : (u : List Token) → Tells (say_start (shape_of u))
+start : (u : List Token) → Tells u (say_start (shape_in u))
 start (word ∷ type ∷ stop ∷ []) = kind (sort_of type)
 start [] = tt
 start (a ∷ []) = tt
@@ -390,29 +422,29 @@ start (a ∷ b ∷ c ∷ d ∷ e ∷ f ∷ []) = tt
 start (a ∷ b ∷ c ∷ d ∷ e ∷ f ∷ g ∷ u) = tt
 
 -- At the top the second word of `LAYER name` and of `VIARULE name` is a name.
-head : (a : Sort) (text : List ℕ) → IsName text → Says-names (say_head a text)
-head a text h = by_sort (λ s. Says-names (say_head s text)) (search (layer_named, rule_named, h)) a
+head : (u : List Token) (a : Sort) → IsName (text_at u 1) → Tells u (say_head a)
+head u a h = by_sort (λ s. Tells u (say_head s)) (search (layer_named, rule_named, h)) a
 
-headed : (first : Sort) (u : List Token) → Matches sort_of (Then (key first) name) u → AreGood u → Tells (say_top (shape_of u))
+headed : (first : Sort) (u : List Token) → Matches sort_of (Then (key first) name) u → AreGood u → Tells u (say_top (shape_in u))
 headed first u (x, y, (w, is, same), (v, also, same'), whole) good =
     let all : u ≡ w ∷ v ∷ [] = whole ∙ ap (λ z. z ++ y) same ∙ ap (λ z. w ∷ z) same' in
     let g : AreGood (w ∷ v ∷ []) = subst AreGood all good in
-    subst (λ z. Tells (say_top (shape_of z))) (sym all) (head (sort_of w) v.text (name_of v v.form refl also g.1.0))
+    subst (λ z. Tells z (say_top (shape_in z))) (sym all) (head (w ∷ v ∷ []) (sort_of w) (name_of v v.form refl also g.1.0))
 
-ended : (u : List Token) → Matches sort_of (Then (key end_word) (key library_word)) u → Tells (say_top (shape_of u))
+ended : (u : List Token) → Matches sort_of (Then (key end_word) (key library_word)) u → Tells u (say_top (shape_in u))
 ended u (x, y, (w, is, same), (v, also, same'), whole) =
     let all : u ≡ w ∷ v ∷ [] = whole ∙ ap (λ z. z ++ y) same ∙ ap (λ z. w ∷ z) same' in
-    subst (λ z. Tells (say_top (shape_of z))) (sym all) (subst (λ s. Says-names (say_head s v.text)) (sym (sort_is (sort_of w) end_word (or_false (the end_word (sort_of w)) is))) tt)
+    subst (λ z. Tells z (say_top (shape_in z))) (sym all) (subst (λ s. Tells (w ∷ v ∷ []) (say_head s)) (sym (sort_is (sort_of w) end_word (or_false (the end_word (sort_of w)) is))) tt)
 
-at_top : (u : List Token) → Matches sort_of top u → AreGood u → Tells (say_top (shape_of u))
+at_top : (u : List Token) → Matches sort_of top u → AreGood u → Tells u (say_top (shape_in u))
 at_top u (inl m) good = headed layer_word u m good
 at_top u (inr (inl m)) good = headed rule_word u m good
 at_top u (inr (inr (inl m))) good = headed passed_word u m good
 at_top u (inr (inr (inr (inl m)))) good = ended u m
-at_top u (inr (inr (inr (inr (w, is, same))))) good = subst (λ z. Tells (say_top (shape_of z))) (sym same) tt
+at_top u (inr (inr (inr (inr (w, is, same))))) good = subst (λ z. Tells z (say_top (shape_in z))) (sym same) tt
 
-tells : (section : Section) (reference : Option LayerRef) (u : List Token) → Matches sort_of (pattern section) u → AreGood u → Tells (saying section reference (shape_of u))
-tells = by_section (λ section. (reference : Option LayerRef) (u : List Token) → Matches sort_of (pattern section) u → AreGood u → Tells (saying section reference (shape_of u))) (
+tells : (section : Section) (reference : Option LayerRef) (u : List Token) → Matches sort_of (pattern section) u → AreGood u → Tells u (saying section reference (shape_in u))
+tells = by_section (λ section. (reference : Option LayerRef) (u : List Token) → Matches sort_of (pattern section) u → AreGood u → Tells u (saying section reference (shape_in u))) (
   λ r u m g. at_top u m g,
   (
     λ r u m g. tt,
@@ -453,9 +485,9 @@ abbrev AllName : List Statement → Type 0
 AllName [] = Unit {0}
 AllName (s ∷ more) = Names s × AllName more
 
-more_units : (state : State) (units : List (List Token)) (unit : List Token) → state_from state (units ++ unit ∷ []) ≡ state_after (state_from state units) (shape_of unit)
+more_units : (state : State) (units : List (List Token)) (unit : List Token) → state_from state (units ++ unit ∷ []) ≡ state_after (state_from state units) unit
 more_units state [] unit = refl
-more_units state (u ∷ units) unit = more_units (state_after state (shape_of u)) units unit
+more_units state (u ∷ units) unit = more_units (state_after state u) units unit
 
 with_one : (told : Option Statement) (others : List Statement) → Says-names told → AllName others → AllName (stated_one told ++ others)
 with_one None others h k = k
@@ -468,8 +500,8 @@ all_name before (u ∷ units) [] follows good h = absurd h
 all_name before (u ∷ units) (t ∷ told) follows good h =
     let state : State = state_of before in
     with_one t (stated told)
-    (told_names (saying state.place.section (named state (shape_of u)) (shape_of u)) t
-    (tells state.place.section (named state (shape_of u)) u follows.1 (good-front u (joined units) good)) h.0)
+    (told_names u (saying state.place.section (named state u) (shape_in u)) t
+    (tells state.place.section (named state u) u follows.1 (good-front u (joined units) good)) h.0)
     (all_name (before ++ u ∷ []) units told follows.2 (good-rest u (joined units) good)
     (subst (λ z. Told z units told) (sym (more_units first_state before u)) h.1))
 

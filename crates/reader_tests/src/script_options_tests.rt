@@ -77,7 +77,7 @@ fn numbers(rt: HostRuntime) {
         Some(100_000_000_000),
     );
     same(&rt, number_in(Quantity::Count, b"12"), Some(12));
-    match numbers_in(rt.alloc(), Quantity::Length, b"1 2\n0.5") {
+    match list_numbers(rt.alloc(), Quantity::Length, b"1 2\n0.5") {
         Ok(values) => same(
             &rt,
             values.as_slice(),

@@ -9,7 +9,6 @@ pub mod Bits
 pub mod Standing
 pub mod Tables
 pub mod Stepping
-pub mod ValueStepping
 pub mod Loop
 pub mod One
 pub mod Taken

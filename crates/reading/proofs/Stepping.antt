@@ -3,8 +3,8 @@ use Rattle.std.proofs.Common.{◌≡◌, ℕ, zero, suc, ◌+◌, ◌*◌, ◌<�
 use Rattle.std.proofs.lemmas.List.{append-nil}
 use Rattle.std.proofs.lemmas.Option.{slice_get_read}
 use Rattle.outside.specs.declared.place.Place.{Place}
-use Rattle.reading.specs.declared.word.Form.TheVariants.{Bare, End}
-use Rattle.reading.specs.declared.word.Word.{Word}
+use Rattle.reading.specs.declared.word.Form.TheVariants.{End}
+use Rattle.reading.specs.declared.word.Heard.{Heard}
 use Rattle.reading.specs.declared.refusal.Found.{Found}
 use Rattle.reading.specs.declared.patterns.Node.{Node}
 use Rattle.reading.specs.declared.machine.Machine.{Machine}
@@ -15,9 +15,9 @@ use Rattle.reading.specs.inside.Left.{lefts}
 use Rattle.reading.specs.inside.Patterns.{IsGraph, Denotes, Grown, Leaves}
 use Rattle.reading.specs.inside.Patterns.{IsStanding}
 use Rattle.reading.specs.Reading.{Format, IsFine}
-use Rattle.reading.specs.Word.{Token, token, place_in}
+use Rattle.reading.specs.Word.{Token, heard_token, place_in}
 use Rattle.reading.specs.Reader.{GoesOn, Closes, Faulty}
-use Rattle.reading.specs.Grammar.{IsRegular, NoneShows, IsTaken}
+use Rattle.reading.specs.Grammar.{AreHeard, IsRegular, NoneShows, IsTaken}
 use Rattle.reading.specs.inside.Machine.{KnowsLefts, KnowsStarts, HasRows, IsReady, KeepsOthers, TellsNoMore, Notes}
 use Rattle.reading.specs.inside.Engine.{StartsAt, StandsAt}
 use Rattle.reading.proofs.Left.{closed}
@@ -142,32 +142,6 @@ step-begins number all pattern f holds old new at rest units part w b some =
     (rest-some (f.sort units) all (b.regular.usable c) (b.regular.samples units) (pattern c) (part ++ w ∷ [])
     (b.regular.units c).solid (subst (λ z. lefts (f.sort units) z (part ++ w ∷ []) ≡ Never → ⊥) same (some _ (denotes_after number all pattern f holds old new at rest units part w b))))
 
--- The place of a word of a list.
-pub place-of : (words : List Word) (i : ℕ) (d : Word) → i < length words → place_in (map token words) None i ≡ Some (get_or words i d).place
-place-of [] i d h = absurd (omega arith)
-place-of (y ∷ words) zero d h = refl
-place-of (y ∷ words) (suc i) d h = place-of words i d (omega arith)
-
--- The word that stands for one past a list's end.
-abbrev pub no_word : Word
-no_word = record { text = record { ref_ptr = (0, 0); now = [] }; place = record { line = 0; word = 0 }; form = Bare }
-
-pub step-fault : {S K : Type 0} (f : Format Token S K) (units : List (List Token)) (part : List Token) (w : Token) (a : Found K) (place : Place) (words : List Token) →
-    words ≡ part ++ w ∷ [] → Begins (f.sort units) (f.follow units) (part ++ w ∷ []) → f.fault units words a → place_in words None a.at ≡ Some place →
-    Faulty f units part w place a.kind
-step-fault f units part w a place words e b is at = record {
-  begins = b;
-  at = a.at;
-  is = subst (λ z. f.fault units z a) e is;
-  place_is = subst (λ z. place_in z None a.at ≡ Some place) e at;
-}
-
-pub fault-within : {S C K : Type 0} (number : S → ℕ) (all : List S) (pattern : C → Pattern S) (f : Format Token S K) (holds : List (List Token) → Type 0)
-    (old new : List Node) (at rest : ℕ) (units : List (List Token)) (part : List Token) (w : Token) (a : Found K) (words : List Token) →
-    Before number all pattern f holds old new at rest units part w → words ≡ part ++ w ∷ [] → Begins (f.sort units) (f.follow units) (part ++ w ∷ []) → f.fault units words a → a.at < length words
-fault-within number all pattern f holds old new at rest units part w a words b e begins is =
-    subst (λ z. a.at < length z) (sym e) (b.regular.orderly.near units (part ++ w ∷ []) a begins (subst (λ z. f.fault units z a) e is))
-
 pub open-not-end : {S C K : Type 0} (number : S → ℕ) (all : List S) (pattern : C → Pattern S) (f : Format Token S K) (holds : List (List Token) → Type 0)
     (old new : List Node) (at rest : ℕ) (units : List (List Token)) (part : List Token) (w : Token) →
     Before number all pattern f holds old new at rest units part w → Begins (f.sort units) (f.follow units) (part ++ w ∷ []) →
@@ -187,30 +161,6 @@ none-more f units before [] w h k = (subst (λ z. IsFine f units (z ++ w ∷ [])
 none-more f units before (v ∷ part) w h k =
     (h.0, none-more f units (before ++ v ∷ []) part w h.1 (subst (λ z. IsFine f units (z ++ w ∷ [])) (sym (append_assoc before (v ∷ []) part)) k))
 
-pub step-open : {S C K : Type 0} (number : S → ℕ) (all : List S) (pattern : C → Pattern S) (f : Format Token S K) (holds : List (List Token) → Type 0)
-    (old new : List Node) (at rest : ℕ) (units : List (List Token)) (part : List Token) (w : Token) (words : List Token) →
-    Before number all pattern f holds old new at rest units part w → ((p : Pattern S) → Denotes number new rest p → p ≡ Never → ⊥) →
-    ((p : Pattern S) → Denotes number new rest p → false ≡ skips p) → words ≡ part ++ w ∷ [] → IsFine f units words →
-    GoesOn f (StandsAt number pattern f holds new rest) units part w
-step-open number all pattern f holds old new at rest units part w words b some no_skip e fine =
-    let d = denotes_after number all pattern f holds old new at rest units part w b in
-    let begins = step-begins number all pattern f holds old new at rest units part w b some in
-    let goes_on : Matches (f.sort units) (f.follow units) (part ++ w ∷ []) → ⊥ =
-    λ m. rest-goes_on (f.sort units) (pattern b.stands.section) (part ++ w ∷ []) (sym (no_skip _ d)) (subst (λ z. Matches (f.sort units) z (part ++ w ∷ [])) b.stands.follow m) in
-    record {
-      begins = begins;
-      partly = goes_on;
-      fine = subst (λ z. IsFine f units z) e fine;
-      not_end = λ end. open-not-end number all pattern f holds old new at rest units part w b begins goes_on end;
-      there = record {
-        held = b.stands.held;
-        section = b.stands.section;
-        follow = b.stands.follow;
-        rest = d;
-        fine = none-more f units [] part w b.stands.fine (subst (λ z. IsFine f units z) e fine);
-      };
-    }
-
 pub stands-start : {S C K : Type 0} (number : S → ℕ) (pattern : C → Pattern S) (f : Format Token S K) (holds : List (List Token) → Type 0) (nodes : List Node) (at : ℕ) (units : List (List Token)) →
     holds units → StartsAt number pattern f nodes at units → StandsAt number pattern f holds nodes at units []
 stands-start number pattern f holds nodes at units h s = record { held = h; section = s.0; follow = s.1; rest = s.2; fine = tt }
@@ -219,29 +169,99 @@ pub stands-first : {S C K : Type 0} (number : S → ℕ) (pattern : C → Patter
     holds [] → ((units : List (List Token)) → holds units → StartsAt number pattern f nodes at units) → StandsAt number pattern f holds nodes at [] []
 stands-first number pattern f holds nodes at h s = stands-start number pattern f holds nodes at [] h (s [] h)
 
+-- The place of a word of a list, and of the one after them.
+pub place-before : {V : Type 0} (words : List (Heard V)) (i : ℕ) (heard : Heard V) (w : Token) → heard ≡ get_or words i heard → i < length words →
+    place_in (map heard_token words ++ w ∷ []) None i ≡ Some heard.word.place
+place-before [] i heard w e h = absurd (omega arith)
+place-before {V} (x ∷ words) zero heard w e h = ap (λ (z : Heard V). Some z.word.place) (sym e)
+place-before (x ∷ words) (suc i) heard w e h = place-before words i heard w e (omega arith)
+
+pub place-after : {V : Type 0} (words : List (Heard V)) (i : ℕ) (w : Token) → length words ≤ i → i < length words + 1 →
+    place_in (map heard_token words ++ w ∷ []) None i ≡ Some w.place
+place-after [] zero w h k = refl
+place-after [] (suc i) w h k = absurd (omega arith)
+place-after (x ∷ words) zero w h k = absurd (omega arith)
+place-after (x ∷ words) (suc i) w h k = place-after words i w (omega arith) (omega arith)
+
+-- What is said of a slice is said of what it shows.
+pub with-seen : {X : Type 0} (seen unit : List X) (A B : List X → Type 0) → seen ≡ unit → A unit → (A seen → B seen) → B unit
+with-seen seen unit A B e a h = subst B e (h (subst A (sym e) a))
+
+pub step-fault : {S K : Type 0} (f : Format Token S K) (units : List (List Token)) (part : List Token) (w : Token) (a : Found K) (place : Place) →
+    Begins (f.sort units) (f.follow units) (part ++ w ∷ []) → f.fault units (part ++ w ∷ []) a → place_in (part ++ w ∷ []) None a.at ≡ Some place →
+    Faulty f units part w place a.kind
+step-fault f units part w a place b is at = record { begins = b; at = a.at; is = is; place_is = at }
+
+pub fault-within : {S C K : Type 0} (number : S → ℕ) (all : List S) (pattern : C → Pattern S) (f : Format Token S K) (holds : List (List Token) → Type 0)
+    (old new : List Node) (at rest : ℕ) (units : List (List Token)) (part : List Token) (w : Token) (a : Found K) →
+    Before number all pattern f holds old new at rest units part w → Begins (f.sort units) (f.follow units) (part ++ w ∷ []) → f.fault units (part ++ w ∷ []) a → a.at < length (part ++ w ∷ [])
+fault-within number all pattern f holds old new at rest units part w a b begins is = b.regular.orderly.near units (part ++ w ∷ []) a begins is
+
+pub step-open : {S C K : Type 0} (number : S → ℕ) (all : List S) (pattern : C → Pattern S) (f : Format Token S K) (holds : List (List Token) → Type 0)
+    (old new : List Node) (at rest : ℕ) (units : List (List Token)) (part : List Token) (w : Token) (after : List (List Token) → Type 0) →
+    Before number all pattern f holds old new at rest units part w → ((p : Pattern S) → Denotes number new rest p → p ≡ Never → ⊥) →
+    ((p : Pattern S) → Denotes number new rest p → false ≡ skips p) → IsFine f units (part ++ w ∷ []) → after units →
+    GoesOn f (StandsAt number pattern f after new rest) units part w
+step-open number all pattern f holds old new at rest units part w after b some no_skip fine held =
+    let d = denotes_after number all pattern f holds old new at rest units part w b in
+    let begins = step-begins number all pattern f holds old new at rest units part w b some in
+    let goes_on : Matches (f.sort units) (f.follow units) (part ++ w ∷ []) → ⊥ =
+    λ m. rest-goes_on (f.sort units) (pattern b.stands.section) (part ++ w ∷ []) (sym (no_skip _ d)) (subst (λ z. Matches (f.sort units) z (part ++ w ∷ [])) b.stands.follow m) in
+    record {
+      begins = begins;
+      partly = goes_on;
+      fine = fine;
+      not_end = λ end. open-not-end number all pattern f holds old new at rest units part w b begins goes_on end;
+      there = record {
+        held = held;
+        section = b.stands.section;
+        follow = b.stands.follow;
+        rest = d;
+        fine = none-more f units [] part w b.stands.fine fine;
+      };
+    }
+
 pub step-whole : {S C K : Type 0} (number : S → ℕ) (all : List S) (pattern : C → Pattern S) (f : Format Token S K) (holds : List (List Token) → Type 0)
-    (old new : List Node) (at rest : ℕ) (units : List (List Token)) (part : List Token) (w : Token) (after : List (List Token) → Type 0) (later : List Node) (start : ℕ) (words : List Token) →
+    (old new : List Node) (at rest : ℕ) (units : List (List Token)) (part : List Token) (w : Token) (after : List (List Token) → Type 0) (later : List Node) (start : ℕ) →
     Before number all pattern f holds old new at rest units part w →
-    ((p : Pattern S) → Denotes number new rest p → true ≡ skips p) → words ≡ part ++ w ∷ [] → IsFine f units words →
-    ((us : List (List Token)) → holds us → IsTaken f us words → after (us ++ words ∷ [])) →
+    ((p : Pattern S) → Denotes number new rest p → true ≡ skips p) → IsFine f units (part ++ w ∷ []) →
+    (IsTaken f units (part ++ w ∷ []) → after (units ++ (part ++ w ∷ []) ∷ [])) →
     ((us : List (List Token)) → after us → StartsAt number pattern f later start us) →
     Closes f (StandsAt number pattern f after later start) units part w
-step-whole number all pattern f holds old new at rest units part w after later start words b skip e fine take starts =
+step-whole number all pattern f holds old new at rest units part w after later start b skip fine take starts =
     let d = denotes_after number all pattern f holds old new at rest units part w b in
     let unit = b.regular.units b.stands.section in
     let m : Matches (f.sort units) (pattern b.stands.section) (part ++ w ∷ []) = rest-skips (f.sort units) (pattern b.stands.section) (part ++ w ∷ []) (sym (skip _ d)) in
     let matches : Matches (f.sort units) (f.follow units) (part ++ w ∷ []) = subst (λ z. Matches (f.sort units) z (part ++ w ∷ [])) (sym b.stands.follow) m in
-    let none : NoneShows f units [] (part ++ w ∷ []) = none-more f units [] part w b.stands.fine (subst (λ z. IsFine f units z) e fine) in
-    let taken : after (units ++ words ∷ []) =
-    take units b.stands.held (record {
-      matches = subst (λ z. Matches (f.sort units) (f.follow units) z) (sym e) matches;
-      fine = subst (λ z. NoneShows f units [] z) (sym e) none;
-    }) in
-    let held : after (units ++ (part ++ w ∷ []) ∷ []) = subst (λ z. after (units ++ z ∷ [])) e taken in
+    let held : after (units ++ (part ++ w ∷ []) ∷ []) = take (record { matches = matches; fine = none-more f units [] part w b.stands.fine fine }) in
     record {
       matches = matches;
       ends = λ x more. closed (f.sort units) all (each-listed number all b.listed) (pattern b.stands.section) unit.closes (part ++ w ∷ []) x m
           (subst (λ z. Matches (f.sort units) z ((part ++ w ∷ []) ++ x)) b.stands.follow more);
-      fine = subst (λ z. IsFine f units z) e fine;
+      fine = fine;
       there = stands-start number pattern f after later start (units ++ (part ++ w ∷ []) ∷ []) held (starts _ held);
     }
+
+-- One more word of the open unit with what it says.
+pub heard-more : {V : Type 0} (says : List Token → V → Type 0) (start : List Token) (unit : List (Heard V)) (last : Heard V) →
+    AreHeard says start unit → says ((start ++ map heard_token unit) ++ heard_token last ∷ []) last.value → AreHeard says start (unit ++ last ∷ [])
+heard-more says start [] last h k = (subst (λ z. says (z ++ heard_token last ∷ []) last.value) (append-nil start) k, tt)
+heard-more says start (x ∷ unit) last h k = (
+  h.0,
+  heard-more says (start ++ heard_token x ∷ []) unit last h.1
+      (subst (λ z. says (z ++ heard_token last ∷ []) last.value) (sym (append_assoc start (heard_token x ∷ []) (map heard_token unit))) k),
+)
+
+pub words-more : {V : Type 0} (unit : List (Heard V)) (last : Heard V) → map heard_token (unit ++ last ∷ []) ≡ map heard_token unit ++ heard_token last ∷ []
+words-more [] last = refl
+words-more (x ∷ unit) last = ap (λ z. heard_token x ∷ z) (words-more unit last)
+
+-- A whole unit with its values is taken.
+pub take-heard : {S K V : Type 0} (f : Format Token S K) (says : List Token → V → Type 0) (units : List (List Token)) (unit all : List (Heard V)) (last : Heard V) (after : List (List Token) → Type 0) →
+    all ≡ unit ++ last ∷ [] → AreHeard says [] unit → says (map heard_token unit ++ heard_token last ∷ []) last.value →
+    (IsTaken f units (map heard_token all) → AreHeard says [] all → after (units ++ map heard_token all ∷ [])) →
+    IsTaken f units (map heard_token unit ++ heard_token last ∷ []) → after (units ++ (map heard_token unit ++ heard_token last ∷ []) ∷ [])
+take-heard f says units unit all last after e heard said take taken =
+    let same : map heard_token all ≡ map heard_token unit ++ heard_token last ∷ [] = ap (λ z. map heard_token z) e ∙ words-more unit last in
+    subst (λ z. after (units ++ z ∷ [])) same
+    (take (subst (λ z. IsTaken f units z) (sym same) taken) (subst (λ z. AreHeard says [] z) (sym e) (heard-more says [] unit last heard said)))

@@ -7,11 +7,6 @@ abbrev pub Finds : {K : Type 0} → (K → Type 0) → Option K → Type 0
 Finds {K} shows None = (kind : K) → shows kind → ⊥
 Finds shows (Some kind) = shows kind
 
--- The fault of this kind, where there is one, of the word that has n words of its unit before it.
-abbrev pub found_at : {K : Type 0} → ℕ → Option K → Option (Found K)
-found_at n None = None
-found_at n (Some kind) = Some (record { at = n; kind = kind })
-
 -- The value that is found, where there is no kind that is shown; or the kind.
 abbrev pub FindsValue : {V K : Type 0} → (K → Type 0) → (V → Type 0) → Result V K → Type 0
 FindsValue {K = K} shows says (Ok value) = ((kind : K) → shows kind → ⊥) × says value

@@ -39,11 +39,6 @@ pub record IsTaken {S K : Type 0} (f : Format Token S K) (units : List (List Tok
   pub matches : Matches (f.sort units) (f.follow units) part
   pub fine : NoneShows f units [] part
 
--- The fault that the words of the open unit show, if they show one.
-abbrev pub Shows : {S K : Type 0} → Format Token S K → List (List Token) → List Token → Option (Found K) → Type 0
-Shows f units part None = IsFine f units part
-Shows f units part (Some a) = f.fault units part a
-
 -- After these words of the open unit each of the next ones says the value that was made of it.
 abbrev pub AreHeard : {V : Type 0} → (List Token → V → Type 0) → List Token → List (Heard V) → Type 0
 AreHeard says before [] = Unit {0}

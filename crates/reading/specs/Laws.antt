@@ -18,8 +18,8 @@ use Rattle.reading.specs.Word.{Token, heard_token, seen_text}
 use Rattle.reading.specs.declared.word.Heard.{Heard}
 use Rattle.reading.specs.Outcome.{IsReadAs, IsRefusedAt}
 use Rattle.reading.specs.Error.{Kinds, kind_of, ReadsRecord, Agree}
-use Rattle.reading.specs.Fault.{Finds, found_at, FindsValue, told_at}
-use Rattle.reading.specs.Grammar.{Shows, AreHeard, Tells}
+use Rattle.reading.specs.Fault.{FindsValue, told_at}
+use Rattle.reading.specs.Grammar.{AreHeard, Tells}
 use Rattle.reading.specs.Blocks.{Block, before_head, blocks, with_unit}
 
 -- A sort that stands in the list of all, which is that of the sorts of these words, is the sort of one of them.
@@ -231,15 +231,6 @@ late f now = record {
   near = λ units part a begins h. now.near units part a h;
   order = λ units part more a b begins h k. late-order f now units part more a b h k;
 }
-
--- The kind that is found at a word is the fault that the words show, where all faults of these words stand there.
-pub show-at : {S K : Type 0} (f : Format Token S K) (units : List (List Token)) (part : List Token) (n : ℕ)
-    (shows : K → Type 0) →
-    ((a : Found K) → f.fault units part a → (a.at ≡ n) × shows a.kind) →
-    ((kind : K) → shows kind → f.fault units part (record { at = n; kind = kind })) →
-    (kind : Option K) → Finds shows kind → Shows f units part (found_at n kind)
-show-at f units part n shows there back None h = λ a k. h a.kind (there a k).1
-show-at f units part n shows there back (Some kind) h = back kind h
 
 -- What is found at a word is what the words tell, where all faults of these words stand there.
 pub tell-at : {S K V : Type 0} (f : Format Token S K) (tells : List Token → V → Type 0) (units : List (List Token))

@@ -3,4 +3,3 @@ pub mod Patterns
 pub mod Machine
 pub mod Engine
 pub mod Items
-pub mod Trial

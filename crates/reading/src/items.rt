@@ -14,8 +14,6 @@ use crate::grammar::Grammar;
 use crate::reader::{Reader, read_by_hand};
 use crate::refusal::Refusal;
 use crate::source::Source;
-use crate::value_engine::read_valued_words;
-use crate::value_grammar::ValueGrammar;
 use crate::word::{Form, Word};
 use outside::Place;
 use std::alloc::Global;
@@ -81,7 +79,8 @@ impl<'a> Source<'a> for Items<'a> {
     }
 }
 
-/// Reads a text into the record of the units that it is, or says at which word it is refused, and why.
+/// Reads a text into the record of the units that it is, or says at which word it is refused,
+/// and why.
 /// Of the text's words it keeps those of the open unit alone.
 pub fn read_text<'a, G: Grammar<'a>>(
     alloc: Global,
@@ -92,6 +91,7 @@ pub fn read_text<'a, G: Grammar<'a>>(
 ) -> Result<(), Refusal<G::Kind>>
 where
     G::Sort: 'a,
+    G::Value: 'a,
     requires { G.holds grammar.now said.old [] }
     ensures reads { Reads mode text.now (G.format grammar.now) (G.holds grammar.now said.new) result }
 
@@ -116,61 +116,13 @@ pub fn read_into<'a, G: Grammar<'a>>(
 ) -> Result<(), ReadError<G::Kind>>
 where
     G::Sort: 'a,
+    G::Value: 'a,
     G::Kind: ErrorKind,
     requires { G.holds grammar.now said.old [] }
     ensures { ReadsRecord G.Kind.kinds mode text.now (G.format grammar.now)
         (λ units told. G.holds grammar.now said.new units) result }
 {
     match read_text(alloc, grammar, said, text, mode) {
-        Ok(()) => Ok(()),
-        Err(refusal) => Err(ReadError::of(refusal)),
-    }
-}
-
-/// Reads a text whose words say values into the record of the units that it is, or says at which word it is refused,
-/// and why.
-/// Of the text's words it keeps those of the open unit alone.
-pub fn read_valued_text<'a, G: ValueGrammar<'a>>(
-    alloc: Global,
-    grammar: &G,
-    said: &mut G::Record,
-    text: &'a [u8],
-    mode: Mode,
-) -> Result<(), Refusal<G::Kind>>
-where
-    G::Sort: 'a,
-    G::Value: 'a,
-    requires { G.holds grammar.now said.old [] }
-    ensures reads { Reads mode text.now (G.format grammar.now) (G.holds grammar.now said.new) result }
-
-    // In lines no word is refused for itself, and in LEF and DEF none for a substitution.
-    ensures lex { IfErr result (λ refusal. FitsMode mode refusal) }
-{
-    let mut items = Items {
-        words: Words::new(text, mode),
-        ended: false,
-    };
-    read_valued_words(alloc, grammar, said, &mut items)
-}
-
-/// Reads a text whose words say values into the record of the units that it is. The error has the place and the kind of the text's one
-/// refusal.
-pub fn read_valued_into<'a, G: ValueGrammar<'a>>(
-    alloc: Global,
-    grammar: &G,
-    said: &mut G::Record,
-    text: &'a [u8],
-    mode: Mode,
-) -> Result<(), ReadError<G::Kind>>
-where
-    G::Sort: 'a,
-    G::Value: 'a,
-    G::Kind: ErrorKind,
-    requires { G.holds grammar.now said.old [] }
-    ensures { ReadsRecord G.Kind.kinds mode text.now (G.format grammar.now)
-        (λ units told. G.holds grammar.now said.new units) result }
-{
-    match read_valued_text(alloc, grammar, said, text, mode) {
         Ok(()) => Ok(()),
         Err(refusal) => Err(ReadError::of(refusal)),
     }

@@ -15,27 +15,17 @@ mod refusal;
 mod rule;
 mod source;
 mod stop;
-mod value_engine;
-mod value_grammar;
 mod word;
 
 pub use engine::read_words;
 pub use error::{ErrorKind, ReadError};
 pub use grammar::Grammar;
-pub use items::{read_into, read_text, read_text_by_hand, read_valued_into, read_valued_text};
-pub use laws::{
-    texts_have_one_result, valued_texts_have_one_result, valued_units_are_read,
-    whole_units_are_read,
-};
+pub use items::{read_into, read_text, read_text_by_hand};
+pub use laws::{texts_have_one_result, whole_units_are_read};
 pub use numbered::Numbered;
 pub use reader::{Reader, read_by_hand};
-pub use refusal::{Cause, Found, Refusal, found_at, told_at};
+pub use refusal::{Cause, Found, Refusal, told_at};
 pub use rule::Rule;
 pub use source::Source;
 pub use stop::{Step, Stop};
-pub use value_engine::read_valued_words;
-pub use value_grammar::ValueGrammar;
 pub use word::{Form, Heard, Word, last_heard, last_word};
-
-#[cfg(test)]
-mod tests;

@@ -1,5 +1,5 @@
 ghost use Rattle.std.specs.Prelude.{◌≡◌};
-ghost use Rattle.reading.specs.Fault.{found_at, told_at};
+ghost use Rattle.reading.specs.Fault.{told_at};
 
 use outside::Place;
 use text_lex::LexKind;
@@ -31,16 +31,6 @@ pub enum Refusal<K> {
     Want,
     /// The text is refused at the word that begins here.
     At(Place, Cause<K>),
-}
-
-/// The fault of this kind, where there is one, of the word that has so many words of its unit before it.
-pub fn found_at<K>(at: usize, kind: Option<K>) -> Option<Found<K>>
-    ensures { result ≡ found_at at kind }
-{
-    match kind {
-        Some(kind) => Some(Found { at, kind }),
-        None => None,
-    }
 }
 
 /// What the word says that has so many words of its unit before it, or its fault of this kind.

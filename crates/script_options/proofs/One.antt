@@ -1,7 +1,8 @@
 -- A word is refused for one reason, and stands for one number.
-use Rattle.std.proofs.Common.{◌≡◌, ◌⊎◌, inl, inr, ℕ, ◌≤◌, ◌<◌, ◌^◌, ℤ, pos, true, false, List, [], ◌∷◌, length, Result, Ok, Err, refl, sym, ◌∙◌, ap, arith}
+use Rattle.std.proofs.Common.{◌≡◌, ◌⊎◌, inl, inr, ℕ, ◌≤◌, ◌<◌, ◌^◌, ℤ, pos, negsuc, true, false, List, [], ◌∷◌, length, Result, Ok, Err, refl, sym, ◌∙◌, ap, subst, arith, to_z, of_z}
 use Rattle.std.specs.Prelude.{unsigned_abs, ◌<ℤ◌}
-use Rattle.std.proofs.lemmas.Int.{ints}
+use Rattle.std.specs.Int.{w64}
+use Rattle.std.proofs.lemmas.Int.{ints, to_z-of_z, fits_signed_from_abs}
 use Rattle.number_place.specs.declared.place.NumberPlace.{NumberPlace}
 use Rattle.number_place.specs.declared.place.Refused.{Refused}
 use Rattle.number_place.specs.declared.place.Refused.TheVariants.{Syntax}
@@ -81,3 +82,24 @@ width_kept l s text value h = (above value (s (place_of Width) text (pos value) 
 
 pub count_kept : Limited → Signed → (text : List ℕ) (value : ℕ) → IsNumberIn Count text value → (0 < value) × (value ≤ 10 ^ 6)
 count_kept l s text value h = (above value (s (place_of Count) text (pos value) h), l (place_of Count) text (pos value) h)
+
+-- ## numbers as the machine keeps them
+
+kept_64 : (v : ℤ) → unsigned_abs v ≤ 10 ^ 11 → to_z w64 (of_z w64 v) ≡ v
+kept_64 v h = to_z-of_z w64 v (fits_signed_from_abs w64 v (omega arith))
+
+kept : Limited → (q : Quantity) (text : List ℕ) (v : ℤ) → IsNumberAt (place_of q) text (Ok v) → to_z w64 (of_z w64 v) ≡ v
+kept l Length text v h = kept_64 v (l (place_of Length) text v h)
+kept l Width text v h = kept_64 v (l (place_of Width) text v h)
+kept l Count text v h = let b = l (place_of Count) text v h in kept_64 v (omega (arith, b))
+
+not_below : Signed → (q : Quantity) (text : List ℕ) (value : ℤ) → IsNumberAt (place_of q) text (Ok value) → IsNumberIn q text (unsigned_abs value)
+not_below s q text (pos n) h = h
+not_below s Length text (negsuc n) h = let b = s (place_of Length) text (negsuc n) h in absurd (omega (arith, ints))
+not_below s Width text (negsuc n) h = let b = s (place_of Width) text (negsuc n) h in absurd (omega (arith, ints))
+not_below s Count text (negsuc n) h = let b = s (place_of Count) text (negsuc n) h in absurd (omega (arith, ints))
+
+-- A number is its own magnitude, since it is not below 0.
+pub number_read : Limited → Signed → (q : Quantity) (text : List ℕ) (value : ℤ) (n : ℕ) → IsNumberAt (place_of q) text (Ok value) → n ≡ unsigned_abs (to_z w64 (of_z w64 value)) →
+    IsNumberIn q text n
+number_read l s q text value n h e = subst (IsNumberIn q text) (sym (e ∙ ap unsigned_abs (kept l q text value h))) (not_below s q text value h)

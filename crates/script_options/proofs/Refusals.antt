@@ -1,5 +1,5 @@
 -- Words that are refused as numbers and as values.
-use Rattle.std.proofs.Common.{◌≡◌, ◌↔◌, ◌⊎◌, inl, inr, ℕ, ℤ, Bool, true, false, IsTrue, List, [], ◌∷◌, Option, Some, None, Result, Ok, Err, refl, sym, ◌∙◌, ap, subst}
+use Rattle.std.proofs.Common.{◌≡◌, ◌↔◌, ◌⊎◌, inl, inr, ℕ, ℤ, Bool, true, false, IsTrue, List, [], ◌∷◌, Option, Some, None, Result, Ok, Err, refl, sym, ◌∙◌, ap, subst, IfNone}
 use Rattle.number_place.specs.declared.place.NumberPlace.{NumberPlace}
 use Rattle.number_place.specs.declared.place.Refused.{Refused}
 use Rattle.number_place.specs.declared.place.Refused.TheVariants.{Syntax}
@@ -27,22 +27,48 @@ none_is r h = cc
 no_mark : (text : List ℕ) → is_mark text ≡ false → is_mark text ≡ true → ⊥
 no_mark text h k = let t : false ≡ true = sym h ∙ k in cc
 
-pub none_refused : (quantity : Quantity) (text : List ℕ) (v : ℤ) → is_mark text ≡ false → IsOnly (place_of quantity) text (Ok v) →
-    (refused : Refused) → (◌≡◌ {A = Option Refused} None (Some refused)) ↔ RefusesNumber quantity text refused
-none_refused quantity text v mark only refused = (
-  (λ h. absurd (none_is refused h)),
+ok_err : (n : ℕ) (r : Refused) → ◌≡◌ {A = Result ℕ Refused} (Ok n) (Err r) → ⊥
+ok_err n r h = cc
+
+err_same : (r s : Refused) → ◌≡◌ {A = Result ℕ Refused} (Err r) (Err s) → r ≡ s
+err_same r s h = cc
+
+pub none_refused : (quantity : Quantity) (text : List ℕ) (v : ℤ) (n : ℕ) → is_mark text ≡ false → IsOnly (place_of quantity) text (Ok v) →
+    (refused : Refused) → (◌≡◌ {A = Result ℕ Refused} (Ok n) (Err refused)) ↔ RefusesNumber quantity text refused
+none_refused quantity text v n mark only refused = (
+  (λ h. absurd (ok_err n refused h)),
   (λ h. absurd (elim h [ inl m ↦ no_mark text mark m.0 | inr e ↦ no_error e.1 v (only (Err e.1) e.2) ])),
 )
 
 pub one_refused : (quantity : Quantity) (text : List ℕ) (r : Refused) → is_mark text ≡ false → IsNumberAt (place_of quantity) text (Err r) →
-    IsOnly (place_of quantity) text (Err r) → (refused : Refused) → (◌≡◌ {A = Option Refused} (Some (refused_as quantity r)) (Some refused)) ↔ RefusesNumber quantity text refused
+    IsOnly (place_of quantity) text (Err r) → (refused : Refused) → (◌≡◌ {A = Result ℕ Refused} (Err (refused_as quantity r)) (Err refused)) ↔ RefusesNumber quantity text refused
 one_refused quantity text r mark is only refused = (
-  (λ h. inr (mark, r, is, sym (some_is (refused_as quantity r) refused h))),
+  (λ h. inr (mark, r, is, sym (err_same (refused_as quantity r) refused h))),
   (λ h. elim h [
     | inl m ↦ absurd (no_mark text mark m.0)
-    | inr e ↦ ap Some (ap (refused_as quantity) (sym (err_is e.1 r (only (Err e.1) e.2))) ∙ sym e.3)
+    | inr e ↦ ap Err (ap (refused_as quantity) (sym (err_is e.1 r (only (Err e.1) e.2))) ∙ sym e.3)
   ]),
 )
+
+-- ## refusals as one answer and as another
+
+abbrev Refuses_as : (Refused → Type 0) → Option Refused → Type 0
+Refuses_as shows o = (other : Refused) → (o ≡ Some other) ↔ shows other
+
+abbrev Told_as : (Refused → Type 0) → Result ℕ Refused → Type 0
+Told_as shows r = (other : Refused) → (r ≡ Err other) ↔ shows other
+
+pub as_none : (shows : Refused → Type 0) (n : ℕ) → Told_as shows (Ok n) → Refuses_as shows None
+as_none shows n h other = ((λ k. absurd (none_is other k)), (λ k. absurd (ok_err n other ((h other).1 k))))
+
+pub as_some : (shows : Refused → Type 0) (r : Refused) → Told_as shows (Err r) → Refuses_as shows (Some r)
+as_some shows r h other = ((λ k. (h other).0 (ap Err (some_is r other k))), (λ k. ap Some (err_same r other ((h other).1 k))))
+
+pub as_ok : (shows : Refused → Type 0) (n : ℕ) → Refuses_as shows None → Told_as shows (Ok n)
+as_ok shows n h other = ((λ k. absurd (ok_err n other k)), (λ k. absurd (none_is other ((h other).1 k))))
+
+pub as_err : (shows : Refused → Type 0) (r : Refused) → Refuses_as shows (Some r) → Told_as shows (Err r)
+as_err shows r h other = ((λ k. (h other).0 (ap Some (err_same r other k))), (λ k. ap Err (some_is r other ((h other).1 k))))
 
 -- Whether the refusal that is found is that for the form.
 pub told_form : (shows : Refused → Type 0) (r : Refused) (b : Bool) → ((other : Refused) → (◌≡◌ {A = Option Refused} (Some r) (Some other)) ↔ shows other) →
@@ -109,3 +135,8 @@ not_named result named text tells h refused = (
   (λ k. (((h refused).0 k).0, λ n. ((h refused).0 k).1 (tells.1 n))),
   (λ k. (h refused).1 (k.0, λ b. k.1 (tells.0 b))),
 )
+
+-- What holds where nothing is refused.
+pub none_then : {A B : Type 0} (r : Option Refused) → (A → B) → IfNone r A → IfNone r B
+none_then None f a = f a
+none_then (Some x) f a = tt

@@ -36,3 +36,7 @@ RefusesNumber quantity text refused =
 -- The text stands for the number.
 abbrev pub IsNumberIn : Quantity → List ℕ → ℕ → Type 0
 IsNumberIn quantity text value = IsNumberAt (place_of quantity) text (Ok (pos value))
+
+-- The text stands for some number.
+abbrev pub HasNumber : Quantity → List ℕ → Type 0
+HasNumber quantity text = (value : ℕ) × IsNumberIn quantity text value

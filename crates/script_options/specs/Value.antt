@@ -1,5 +1,6 @@
 -- Why a word is refused as the value of an option.
 use Rattle.std.specs.Prelude.{◌≡◌, ◌⊎◌, ◌==◌, ℕ, Bool, true, false, IsTrue, ◌||◌, List, [], ◌∷◌, length, codes}
+use Rattle.std.specs.List.{AllByRecursion}
 use Rattle.std.specs.Str.{bytes_eq}
 use Rattle.number_place.specs.declared.place.Refused.{Refused}
 use Rattle.number_place.specs.declared.place.Refused.TheVariants.{Syntax}
@@ -9,7 +10,7 @@ use Rattle.script_options.specs.declared.table.Counts.TheVariants as counts
 use Rattle.script_options.specs.declared.table.ValueForm.{ValueForm}
 use Rattle.script_options.specs.declared.table.ValueForm.TheVariants.{Nothing, Name, Start, Number, Names, Numbers}
 use Rattle.script_options.specs.ListWords.{words_of}
-use Rattle.script_options.specs.Number.{RefusesNumber}
+use Rattle.script_options.specs.Number.{RefusesNumber, IsNumberIn, HasNumber}
 use Rattle.text_lex.specs.Name.{IsName}
 
 -- The word is `POWER` or `GROUND`.
@@ -60,3 +61,17 @@ Refuses Start text refused = (refused ≡ Syntax) × (¬ IsTrue (is_start text))
 Refuses (Number quantity) text refused = RefusesNumber quantity text refused
 Refuses (Names counts) text refused = RefusesNames counts (words_of text) refused
 Refuses (Numbers quantity counts) text refused = RefusesNumbers quantity counts (words_of text) refused
+
+-- A word that is not refused as a value of this form: a name, a number, or a list of so many names or numbers.
+abbrev pub Suits : ValueForm → List ℕ → Type 0
+Suits Name text = IsName text
+Suits (Number quantity) text = HasNumber quantity text
+Suits (Names counts) text = (fits counts (length (words_of text)) ≡ true) × AllByRecursion IsName (words_of text)
+Suits (Numbers quantity counts) text =
+    (fits counts (length (words_of text)) ≡ true) × AllByRecursion (HasNumber quantity) (words_of text)
+Suits _ text = Unit {0}
+
+-- The number that a word says as a value of this form, where it is one number.
+abbrev pub SaysNumber : ValueForm → List ℕ → ℕ → Type 0
+SaysNumber (Number quantity) text value = IsNumberIn quantity text value
+SaysNumber _ text value = Unit {0}

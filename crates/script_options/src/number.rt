@@ -1,13 +1,16 @@
 //! The numbers of a script.
-ghost use Rattle.std.specs.Prelude.{◌≡◌, ◌↔◌, ◌≤◌, ◌^◌, ℕ, IfOk, IfSome, Some};
+ghost use Rattle.std.specs.Prelude.{◌≡◌, ◌↔◌, ℕ, IfNone, IfOk, IfSome, Some, Err};
+ghost use Rattle.std.specs.List.{AllByRecursion};
 ghost use Rattle.entry_list.specs.InTurn.{InTurn};
 ghost use Rattle.number_place.specs.declared.place.Refused.{Refused as Reason};
 ghost use Rattle.script_options.specs.ListWords.{words_of};
-ghost use Rattle.script_options.specs.Number.{place_of as place, is_mark as mark, refused_as as reason, RefusesNumber, IsNumberIn};
+ghost use Rattle.script_options.specs.Number.{place_of as place, is_mark as mark, refused_as as reason, RefusesNumber, IsNumberIn, HasNumber};
 
 use crate::list::first_part;
 use fixed_decimal::DecimalError;
-use number_place::{NumberForm, NumberPlace, NumberSign, Refused, number_at, small_number_at};
+use number_place::{
+    NumberForm, NumberPlace, NumberSign, Refused, small_number_at, values_fit_their_places,
+};
 use std::alloc::{AllocError, Global};
 
 /// The longest length, in pm: 100 mm.
@@ -82,16 +85,29 @@ fn refused_as(quantity: Quantity, refused: Refused) -> Refused
     }
 }
 
+/// The number that the text stands for, or why it is refused.
+pub(crate) fn number_told(quantity: Quantity, text: &[u8]) -> Result<u64, Refused>
+    ensures refused { (refused : Reason) → (result ≡ Err refused) ↔ RefusesNumber quantity text.now refused }
+    ensures is { IfOk result (λ value. IsNumberIn quantity text.now value) }
+{
+    values_fit_their_places();
+    if is_mark(text) {
+        return Err(Refused::Syntax);
+    }
+    match small_number_at(place_of(quantity), text) {
+        Ok(value) => Ok(value.unsigned_abs()),
+        Err(refused) => Err(refused_as(quantity, refused)),
+    }
+}
+
 /// Why the text is refused as a number.
 pub(crate) fn number_refused(quantity: Quantity, text: &[u8]) -> Option<Refused>
-    ensures { (refused : Reason) → (result ≡ Some refused) ↔ RefusesNumber quantity text.now refused }
+    ensures is { (refused : Reason) → (result ≡ Some refused) ↔ RefusesNumber quantity text.now refused }
+    ensures fine { IfNone result (HasNumber quantity text.now) }
 {
-    if is_mark(text) {
-        return Some(Refused::Syntax);
-    }
-    match number_at(place_of(quantity), text) {
+    match number_told(quantity, text) {
         Ok(_) => None,
-        Err(refused) => Some(refused_as(quantity, refused)),
+        Err(refused) => Some(refused),
     }
 }
 
@@ -111,9 +127,10 @@ pub fn number_in(quantity: Quantity, text: &[u8]) -> Option<u64>
     }
 }
 
-/// The numbers of a list. None of them may be refused: otherwise the answer is want of memory, which says nothing.
-pub fn numbers_in(alloc: Global, quantity: Quantity, text: &[u8]) -> Result<Vec<u64>, AllocError>
-    ensures { IfOk result (λ values. InTurn (IsNumberIn quantity) (words_of text.now) values.items) }
+/// The numbers that the words of a list stand for, and 0 for a word that stands for none.
+pub fn list_numbers(alloc: Global, quantity: Quantity, text: &[u8]) -> Result<Vec<u64>, AllocError>
+    ensures { IfOk result (λ values. AllByRecursion (HasNumber quantity) (words_of text.now) →
+        InTurn (IsNumberIn quantity) (words_of text.now) values.items) }
 {
     let mut values = Vec::new(alloc);
     let mut rest = text;
@@ -121,10 +138,7 @@ pub fn numbers_in(alloc: Global, quantity: Quantity, text: &[u8]) -> Result<Vec<
         let Some(part) = first_part(rest) else {
             return Ok(values);
         };
-        let Some(value) = number_in(quantity, part.word) else {
-            return Err(AllocError);
-        };
-        values.push(value)?;
+        values.push(number_in(quantity, part.word).unwrap_or(0))?;
         rest = part.rest;
     }
 }

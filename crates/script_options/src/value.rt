@@ -1,13 +1,15 @@
 //! Whether a word may be the value of an option.
-ghost use Rattle.std.specs.Prelude.{◌≡◌, ◌↔◌, IsTrue, Some, length};
+ghost use Rattle.std.specs.Prelude.{◌≡◌, ◌↔◌, true, false, IsTrue, IfNone, IfOk, Some, Err, length};
+ghost use Rattle.std.specs.List.{AllByRecursion};
 ghost use Rattle.number_place.specs.declared.place.Refused.{Refused as Reason};
 ghost use Rattle.number_place.specs.declared.place.Refused.TheVariants as reasons;
 ghost use Rattle.script_options.specs.ListWords.{words_of};
-ghost use Rattle.script_options.specs.Number.{RefusesNumber};
-ghost use Rattle.script_options.specs.Value.{is_start as start, fits as fit, AnyOtherWord, AnySyntax, FirstRefused, RefusesNames, RefusesNumbers, Refuses};
+ghost use Rattle.script_options.specs.Number.{RefusesNumber, HasNumber};
+ghost use Rattle.script_options.specs.Value.{is_start as start, fits as fit, AnyOtherWord, AnySyntax, FirstRefused, RefusesNames, RefusesNumbers, Refuses, Suits, SaysNumber};
+ghost use Rattle.text_lex.specs.Name.{IsName};
 
 use crate::list::first_part;
-use crate::number::{Quantity, number_refused};
+use crate::number::{Quantity, number_refused, number_told};
 use crate::table::{Counts, ValueForm};
 use number_place::Refused;
 use text_lex::is_name;
@@ -48,7 +50,8 @@ fn count_of(text: &[u8]) -> usize
 
 /// Whether a word of the list is no name.
 fn any_other_word(text: &[u8]) -> bool
-    ensures { IsTrue result ↔ AnyOtherWord (words_of text.now) }
+    ensures is { IsTrue result ↔ AnyOtherWord (words_of text.now) }
+    ensures names { result ≡ false → AllByRecursion IsName (words_of text.now) }
 {
     let mut rest = text;
     loop {
@@ -100,7 +103,8 @@ fn any_syntax(quantity: Quantity, text: &[u8]) -> bool
 
 /// Why the first word of the list that is refused as a number is refused.
 fn first_refused(quantity: Quantity, text: &[u8]) -> Option<Refused>
-    ensures { (refused : Reason) → (result ≡ Some refused) ↔ FirstRefused quantity (words_of text.now) refused }
+    ensures is { (refused : Reason) → (result ≡ Some refused) ↔ FirstRefused quantity (words_of text.now) refused }
+    ensures fine { IfNone result (AllByRecursion (HasNumber quantity) (words_of text.now)) }
 {
     let mut rest = text;
     loop {
@@ -116,7 +120,9 @@ fn first_refused(quantity: Quantity, text: &[u8]) -> Option<Refused>
 
 /// Why the list of names is refused.
 fn names_refused(counts: Counts, text: &[u8]) -> Option<Refused>
-    ensures { (refused : Reason) → (result ≡ Some refused) ↔ RefusesNames counts (words_of text.now) refused }
+    ensures is { (refused : Reason) → (result ≡ Some refused) ↔ RefusesNames counts (words_of text.now) refused }
+    ensures fine { IfNone result ((fit counts (length (words_of text.now)) ≡ true) ×
+        AllByRecursion IsName (words_of text.now)) }
 {
     if !fits(counts, count_of(text)) || any_other_word(text) {
         return Some(Refused::Syntax);
@@ -126,7 +132,9 @@ fn names_refused(counts: Counts, text: &[u8]) -> Option<Refused>
 
 /// Why the list of numbers is refused.
 fn numbers_refused(quantity: Quantity, counts: Counts, text: &[u8]) -> Option<Refused>
-    ensures { (refused : Reason) → (result ≡ Some refused) ↔ RefusesNumbers quantity counts (words_of text.now) refused }
+    ensures is { (refused : Reason) → (result ≡ Some refused) ↔ RefusesNumbers quantity counts (words_of text.now) refused }
+    ensures fine { IfNone result ((fit counts (length (words_of text.now)) ≡ true) ×
+        AllByRecursion (HasNumber quantity) (words_of text.now)) }
 {
     if !fits(counts, count_of(text)) || any_syntax(quantity, text) {
         return Some(Refused::Syntax);
@@ -136,14 +144,16 @@ fn numbers_refused(quantity: Quantity, counts: Counts, text: &[u8]) -> Option<Re
 
 /// The refusal for the form, where the word has not the form.
 fn syntax_unless(holds: bool) -> Option<Refused>
-    ensures { (refused : Reason) → (result ≡ Some refused) ↔ ((refused ≡ reasons.Syntax) × (¬ IsTrue holds)) }
+    ensures is { (refused : Reason) → (result ≡ Some refused) ↔ ((refused ≡ reasons.Syntax) × (¬ IsTrue holds)) }
+    ensures fine { IfNone result (IsTrue holds) }
 {
     if holds { None } else { Some(Refused::Syntax) }
 }
 
 /// Why the word is refused as a value of this form.
 pub fn value_refused(form: ValueForm, text: &[u8]) -> Option<Refused>
-    ensures { (refused : Reason) → (result ≡ Some refused) ↔ Refuses form text.now refused }
+    ensures is { (refused : Reason) → (result ≡ Some refused) ↔ Refuses form text.now refused }
+    ensures fine { IfNone result (Suits form text.now) }
 {
     match form {
         ValueForm::Nothing => None,
@@ -152,5 +162,20 @@ pub fn value_refused(form: ValueForm, text: &[u8]) -> Option<Refused>
         ValueForm::Number(quantity) => number_refused(quantity, text),
         ValueForm::Names(counts) => names_refused(counts, text),
         ValueForm::Numbers(quantity, counts) => numbers_refused(quantity, counts, text),
+    }
+}
+
+/// The number that the word says as a value of this form, and 0 of one that is no number; or why it is refused.
+pub fn value_told(form: ValueForm, text: &[u8]) -> Result<u64, Refused>
+    ensures refused { (refused : Reason) → (result ≡ Err refused) ↔ Refuses form text.now refused }
+    ensures fine { IfOk result (λ value. Suits form text.now) }
+    ensures says { IfOk result (λ value. SaysNumber form text.now value) }
+{
+    match form {
+        ValueForm::Number(quantity) => number_told(quantity, text),
+        _ => match value_refused(form, text) {
+            None => Ok(0),
+            Some(refused) => Err(refused),
+        },
     }
 }

@@ -15,7 +15,7 @@ ghost use Rattle.text_lex.specs.declared.word.Mode.TheVariants.{Lines};
 
 use crate::format::CardsFormat;
 use netlist_words::words_of_lines;
-use reading::{valued_texts_have_one_result, valued_units_are_read};
+use reading::{texts_have_one_result, whole_units_are_read};
 
 /// A text is one list of units or has one refusal, and not both.
 pub fn netlists_have_one_reading()
@@ -24,7 +24,7 @@ pub fn netlists_have_one_reading()
     ensures not_both { (text : List ℕ) (units : List (List Token)) (error : Error Kind) → IsNetlist text units →
         IsRefusedNetlist text error → ⊥ }
 {
-    valued_texts_have_one_result(&CardsFormat);
+    texts_have_one_result(&CardsFormat);
 }
 
 /// The name of each node of a netlist's cards is one word of a line.
@@ -44,5 +44,5 @@ pub fn whole_cards_are_read()
         ((front : List (List Token)) (next : List Token) (back : List (List Token)) → units ≡ front ++ next ∷ back →
         format.ends front ≡ false) → IsReadAs format text all }
 {
-    valued_units_are_read(&CardsFormat);
+    whole_units_are_read(&CardsFormat);
 }

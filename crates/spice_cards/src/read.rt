@@ -11,7 +11,7 @@ use crate::held::Held;
 use crate::record::Cards;
 use netlist_words::NetlistWords;
 use outside::Place;
-use reading::{Cause, ErrorKind, ReadError, Refusal, read_valued_words};
+use reading::{Cause, ErrorKind, ReadError, Refusal, read_words};
 use std::alloc::Global;
 
 /// The kind of a cause.
@@ -72,7 +72,7 @@ pub fn read_cards<'a>(alloc: Global, text: &'a [u8]) -> Result<Cards<'a>, CardsE
         return Err(ReadError::want());
     };
     let mut words = NetlistWords::new(text);
-    match read_valued_words(alloc, &CardsFormat, &mut held, &mut words) {
+    match read_words(alloc, &CardsFormat, &mut held, &mut words) {
         Ok(()) => Ok(held.into_cards()),
         Err(refusal) => Err(error_of(refusal)),
     }

@@ -1,5 +1,5 @@
 //! The fault that the words of a statement show.
-ghost use Rattle.std.specs.Prelude.{◌≡◌, true, false, IfNone, IfSome};
+ghost use Rattle.std.specs.Prelude.{◌≡◌, true, false, IfOk, IfErr};
 ghost use Rattle.std.specs.List.{list_all};
 ghost use Rattle.std.specs.Char.{is_ascii_digit};
 ghost use Rattle.statements.specs.Fault.{is_whole as whole};
@@ -27,15 +27,15 @@ pub(crate) fn is_whole(text: &[u8]) -> bool
     !text.is_empty() && has_only_digits(text)
 }
 
-/// The fault of the number of a statement.
-pub(crate) fn not_whole(number: &Word<'_>) -> Option<Found<Kind>>
-    ensures none { IfNone result (whole number.now.text.now ≡ true) }
-    ensures some { IfSome result (λ a. (whole number.now.text.now ≡ false) × (a ≡ record { at = 2; kind = Kind.NotWhole })) }
+/// The number of a statement, or why it is none.
+pub(crate) fn whole_number(number: &Word<'_>) -> Result<(), Found<Kind>>
+    ensures whole { IfOk result (λ _. whole number.now.text.now ≡ true) }
+    ensures fault { IfErr result (λ a. (whole number.now.text.now ≡ false) × (a ≡ record { at = 2; kind = Kind.NotWhole })) }
 {
     if is_whole(number.text) {
-        return None;
+        return Ok(());
     }
-    Some(Found {
+    Err(Found {
         at: 2,
         kind: Kind::NotWhole,
     })

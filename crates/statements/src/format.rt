@@ -6,12 +6,12 @@ ghost use Rattle.statements.specs.Rule.{pattern_of};
 ghost use Rattle.statements.specs.Record.{count_of};
 ghost use Rattle.statements.specs.Format.{statements_format};
 
-use crate::fault::{Kind, not_whole};
+use crate::fault::{Kind, whole_number};
 use crate::record::count_in;
 use crate::rule::UNIT;
 use crate::section::Section;
 use crate::sort::{Sort, sort_of};
-use reading::{Found, Grammar, Rule, Word};
+use reading::{Found, Grammar, Heard, Rule, Word};
 use std::alloc::AllocError;
 
 /// The format, which depends on nothing beside the text.
@@ -25,10 +25,14 @@ impl<'a> Grammar<'a> for Statements {
     type Record = u64;
 
     type Kind = Kind;
+    /// A word says nothing: a statement counts, and not its number.
+    type Value = ();
 
     ghost format = { λ _. statements_format };
 
     ghost pattern = { pattern_of };
+
+    ghost says = { λ _ units part value. Unit {0} };
 
     ghost holds = { λ _ said units. said ≡ count_of units };
 
@@ -44,10 +48,16 @@ impl<'a> Grammar<'a> for Statements {
         UNIT
     }
 
-    fn fault(&self, _: &u64, unit: &[Word<'a>]) -> Option<Found<Kind>> {
-        match unit {
-            [_, _, number] => not_whole(number),
-            _ => None,
+    fn hear(
+        &self,
+        _: &u64,
+        before: &[Heard<'a, ()>],
+        word: &Word<'a>,
+        _: Sort,
+    ) -> Result<(), Found<Kind>> {
+        match before {
+            [_, _] => whole_number(word),
+            _ => Ok(()),
         }
     }
 
@@ -55,14 +65,9 @@ impl<'a> Grammar<'a> for Statements {
         false
     }
 
-    fn take(&self, said: &mut u64, unit: &[Word<'a>]) -> Result<(), AllocError> {
-        match said.checked_add(count_in(unit)) {
-            Some(count) => {
-                *said = count;
-                Ok(())
-            }
-            None => Err(AllocError),
-        }
+    fn take(&self, said: &mut u64, unit: &[Heard<'a, ()>]) -> Result<(), AllocError> {
+        *said = said.saturating_add(count_in(unit));
+        Ok(())
     }
 
     fn regular(&self)

@@ -12,12 +12,12 @@ use Rattle.lef_tech.specs.declared.rule.ViaRule.{ViaRule}
 use Rattle.lef_tech.specs.Pattern.{the}
 use Rattle.lef_tech.specs.Record.{stated_one, no_facts, with_fact, facts_of, is_head, body_of, density_of, layer_by, layer_of, with_layer, layers_of, wires_of, cuts_of, parts_of, fits, rule_by, rule_with, rule_between, rule_across, rule_among, rule_of, with_rule, rules_of}
 use Rattle.lef_tech.specs.Section.{section_number}
-use Rattle.lef_tech.specs.Shape.{shape_of}
+use Rattle.lef_tech.specs.Shape.{shape_in, shape_of, text_at}
 use Rattle.lef_tech.specs.Sort.{sort_of}
-use Rattle.lef_tech.specs.Statement.{Saying, Says, say_head, say_top, say_type, say_start, say_alone, say_wire_three, say_wire_four, say_wire, say_cut_three, say_cut_four, say_cut, say_table, say_values, say_rule, say_wire_part, say_cut_part, saying}
-use Rattle.lef_tech.specs.Statement.Saying.{Plain, Of, OfTwo, OfCorners}
+use Rattle.lef_tech.specs.Statement.{Saying, Says, say_head, say_top, say_type, say_start, say_wire_three, say_wire_four, say_wire, say_cut_three, say_cut_four, say_cut, say_point, say_table, say_value, say_values, say_rule, say_wire_part, say_cut_part, saying}
+use Rattle.lef_tech.specs.Statement.Saying.{Plain, Named, Of, Alone, OfTwo, OfCorners}
 use Rattle.tech_names.proofs.Apart.{AddsTo, Takes, AreApart, apart_none, apart_less, apart_more}
-use Rattle.tech_names.proofs.Types.{Sort, Section, Quantity, Statement, Facts, Layer, Part, by_sort, by_section, layer_word, rule_word, semicolon, by_shape}
+use Rattle.tech_names.proofs.Types.{Sort, Section, Quantity, Statement, Facts, Layer, Part, by_sort, by_section, layer_word, rule_word, spacing_word, resistance_word, current_word, by_shape}
 
 -- ## layers and rules
 
@@ -111,12 +111,14 @@ abbrev pub SaysOf : Option (List ℕ) → Option (List ℕ) → Option Statement
 SaysOf layer rule None = Unit {0}
 SaysOf layer rule (Some s) = Begins layer rule s
 
--- What is said begins such a layer and such a rule, whatever its numbers are.
-abbrev Tells : Option (List ℕ) → Option (List ℕ) → Saying → Type 0
-Tells layer rule (Plain told) = SaysOf layer rule told
-Tells layer rule (Of quantity word make) = (v : ℕ) → Begins layer rule (make v)
-Tells layer rule (OfTwo quantity a b make) = (v w : ℕ) → Begins layer rule (make v w)
-Tells layer rule (OfCorners x1 y1 x2 y2) = (layer ≡ None) × (rule ≡ None)
+-- What is said of a unit begins such a layer and such a rule, whatever its numbers are.
+abbrev Tells : Option (List ℕ) → Option (List ℕ) → List Token → Saying → Type 0
+Tells layer rule u (Plain told) = SaysOf layer rule told
+Tells layer rule u (Named make) = Begins layer rule (make (text_at u 1))
+Tells layer rule u (Of quantity at make) = (v : ℕ) → Begins layer rule (make v)
+Tells layer rule u (Alone quantity at make) = (v : ℕ) → Begins layer rule (make v)
+Tells layer rule u (OfTwo quantity a b make) = (v w : ℕ) → Begins layer rule (make v w)
+Tells layer rule u OfCorners = (layer ≡ None) × (rule ≡ None)
 
 -- One that says no type of a layer.
 begins : (layer rule : Option (List ℕ)) (s : Statement) → ((others : List Statement) → layers_of (s ∷ others) ≡ with_new_layer layer others)
@@ -141,64 +143,96 @@ typed s layers rules along none = record { layers = layers; rules = rules; kind 
     by_direction facts names name None more density = none facts more name density
     by_direction facts names name (Some axis) more density = along facts more name axis density
 
-told_begins : (layer rule : Option (List ℕ)) (s : Saying) (told : Option Statement) → Tells layer rule s → Says s told → SaysOf layer rule told
-told_begins layer rule (Plain statement) told h e = subst (SaysOf layer rule) (sym e) h
-told_begins layer rule (Of quantity word make) told h (v, is, e) = subst (SaysOf layer rule) (sym e) (h v)
-told_begins layer rule (OfTwo quantity a b make) told h (v, w, is, also, e) = subst (SaysOf layer rule) (sym e) (h v w)
-told_begins layer rule (OfCorners x1 y1 x2 y2) told h (x, y, is, also, e) =
+told_begins : (layer rule : Option (List ℕ)) (u : List Token) (s : Saying) (told : Option Statement) → Tells layer rule u s → Says u s told → SaysOf layer rule told
+told_begins layer rule u (Plain statement) told h e = subst (SaysOf layer rule) (sym e) h
+told_begins layer rule u (Named make) told h e = subst (SaysOf layer rule) (sym e) h
+told_begins layer rule u (Of quantity at make) told h (v, is, e) = subst (SaysOf layer rule) (sym e) (h v)
+told_begins layer rule u (Alone quantity at make) told h (v, is, e) = subst (SaysOf layer rule) (sym e) (h v)
+told_begins layer rule u (OfTwo quantity a b make) told h (v, w, is, also, e) = subst (SaysOf layer rule) (sym e) (h v w)
+told_begins layer rule u OfCorners told h (x, y, is, also, e) =
     subst (λ z. SaysOf z rule told) (sym h.0) (subst (λ z. SaysOf None z told) (sym h.1) (subst (SaysOf None None) (sym e) (plain _ (λ o. refl) (λ o. refl) (λ f. refl))))
 
 -- ## units outside of the top
 
-tells_if : (b : Bool) (x y : Saying) → Tells None None x → Tells None None y → Tells None None (if b then x else y)
-tells_if true x y h k = h
-tells_if false x y h k = k
-
-alone : (quantity : Quantity) (w : Token) (last : Sort) (make : ℕ → Statement) → ((v : ℕ) → Begins None None (make v)) → Tells None None (say_alone quantity w last make)
-alone quantity w last make h = tells_if (the semicolon last) (Of quantity w make) (Plain None) h tt
-
-either : (b : Bool) (first second : Quantity) (v w : Token) (make other : ℕ → Statement) → ((n : ℕ) → Begins None None (make n)) → ((n : ℕ) → Begins None None (other n))
-    → Tells None None (if b then Of first v make else Of second w other)
-either b first second v w make other h k = tells_if b (Of first v make) (Of second w other) h k
-
 start_three : (a : Sort) → SaysOf None None (say_type a)
 start_three a = by_sort (λ s. SaysOf None None (say_type s)) (search (plain, typed, named_none, named_wire, named_cut)) a
 
-wire_three : (a : Sort) (second : Token) (last : Sort) → Tells None None (say_wire_three a second last)
-wire_three a second last = by_sort (λ s. Tells None None (say_wire_three s second last)) (search (plain, alone)) a
+-- `SPACING s ;` of a routing layer.
+wire_spacing : (u : List Token) (second last : Sort) → Tells None None u (say_wire_three spacing_word second last)
+wire_spacing u second last = by_sort (λ s. Tells None None u (say_wire_three spacing_word second s)) (search plain) last
 
-wire_four : (a : Sort) (third last : Token) → Tells None None (say_wire_four a third last)
-wire_four a third last = by_sort (λ s. Tells None None (say_wire_four s third last)) (search (plain, alone, either)) a
+wire_three : (u : List Token) (a second last : Sort) → Tells None None u (say_wire_three a second last)
+wire_three u a second last = by_sort (λ s. Tells None None u (say_wire_three s second last)) (search (plain, wire_spacing)) a
 
-cut_three : (a : Sort) (second : Token) (last : Sort) → Tells None None (say_cut_three a second last)
-cut_three a second last = by_sort (λ s. Tells None None (say_cut_three s second last)) (search (plain, alone)) a
+-- `RESISTANCE RPERSQ v ;` of a routing layer.
+wire_resistance : (u : List Token) (third last : Sort) → Tells None None u (say_wire_four resistance_word third last)
+wire_resistance u third last = by_sort (λ s. Tells None None u (say_wire_four resistance_word third s)) (search plain) last
 
-cut_four : (a : Sort) (third last : Token) → Tells None None (say_cut_four a third last)
-cut_four a third last = by_sort (λ s. Tells None None (say_cut_four s third last)) (search (plain, either)) a
+-- `DCCURRENTDENSITY AVERAGE` of a routing layer.
+wire_current : (u : List Token) (third last : Sort) → Tells None None u (say_wire_four current_word third last)
+wire_current u third last = by_sort (λ s. Tells None None u (say_wire_four current_word s last)) (search plain) third
 
-start : (u : List Token) → Tells None None (say_start (shape_of u))
-start = by_shape (λ u. Tells None None (say_start (shape_of u))) (search (start_three))
+wire_four : (u : List Token) (a third last : Sort) → Tells None None u (say_wire_four a third last)
+wire_four u a third last = by_sort (λ s. Tells None None u (say_wire_four s third last)) (search (wire_resistance, wire_current)) a
 
-wire : (u : List Token) → Tells None None (say_wire (shape_of u))
-wire = by_shape (λ u. Tells None None (say_wire (shape_of u))) (search (wire_three, wire_four))
+-- `RESISTANCE v ;` of a cut layer.
+cut_resistance : (u : List Token) (last : Sort) → Tells None None u (say_cut_three resistance_word last)
+cut_resistance u last = by_sort (λ s. Tells None None u (say_cut_three resistance_word s)) (search plain) last
 
-cut : (u : List Token) → Tells None None (say_cut (shape_of u))
-cut = by_shape (λ u. Tells None None (say_cut (shape_of u))) (search (cut_three, cut_four))
+cut_three : (u : List Token) (a last : Sort) → Tells None None u (say_cut_three a last)
+cut_three u a last = by_sort (λ s. Tells None None u (say_cut_three s last)) (search cut_resistance) a
 
-table : (points values : Quantity) (u : List Token) → Tells None None (say_table points values (shape_of u))
-table points values = by_shape (λ u. Tells None None (say_table points values (shape_of u))) (search plain)
+-- `DCCURRENTDENSITY AVERAGE` of a cut layer.
+cut_current : (u : List Token) (third : Sort) → Tells None None u (say_cut_four current_word third)
+cut_current u third = by_sort (λ s. Tells None None u (say_cut_four current_word s)) (search plain) third
 
-entries : (values : Quantity) (u : List Token) → Tells None None (say_values values (shape_of u))
-entries values = by_shape (λ u. Tells None None (say_values values (shape_of u))) (search (plain, tells_if))
+cut_four : (u : List Token) (a third : Sort) → Tells None None u (say_cut_four a third)
+cut_four u a third = by_sort (λ s. Tells None None u (say_cut_four s third)) (search cut_current) a
 
-part : (reference : Option LayerRef) (u : List Token) → Tells None None (say_rule reference (shape_of u))
-part reference = by_shape (λ u. Tells None None (say_rule reference (shape_of u))) (search plain)
+point : (points : Quantity) (u : List Token) (a : Sort) → Tells None None u (say_point points a)
+point points u a = by_sort (λ s. Tells None None u (say_point points s)) (search plain) a
 
-wire_part : (reference : Option LayerRef) (u : List Token) → Tells None None (say_wire_part reference (shape_of u))
-wire_part reference = by_shape (λ u. Tells None None (say_wire_part reference (shape_of u))) (search plain)
+value : (values : Quantity) (u : List Token) (a : Sort) → Tells None None u (say_value values a)
+value values u a = by_sort (λ s. Tells None None u (say_value values s)) (search plain) a
 
-cut_part : (reference : Option LayerRef) (u : List Token) → Tells None None (say_cut_part reference (shape_of u))
-cut_part reference = by_shape (λ u. Tells None None (say_cut_part reference (shape_of u))) (search (plain, tells_if))
+start : (u : List Token) → Tells None None u (say_start (shape_in u))
+start = by_shape (λ u. Tells None None u (say_start (shape_in u))) (search start_three)
+
+wire : (u : List Token) → Tells None None u (say_wire (shape_in u))
+wire = by_shape (λ u. Tells None None u (say_wire (shape_in u))) (search (wire_three, wire_four))
+
+cut : (u : List Token) → Tells None None u (say_cut (shape_in u))
+cut = by_shape (λ u. Tells None None u (say_cut (shape_in u))) (search (cut_three, cut_four))
+
+table : (points values : Quantity) (u : List Token) → Tells None None u (say_table points values (shape_in u))
+table points values = by_shape (λ u. Tells None None u (say_table points values (shape_in u))) (search (plain, point))
+
+entries : (values : Quantity) (u : List Token) → Tells None None u (say_values values (shape_in u))
+entries values = by_shape (λ u. Tells None None u (say_values values (shape_in u))) (search value)
+
+part : (reference : Option LayerRef) (u : List Token) → Tells None None u (say_rule reference (shape_in u))
+part reference = by_shape (λ u. Tells None None u (say_rule reference (shape_in u))) (search plain)
+
+wire_part_four : (reference : Option LayerRef) (u : List Token) (a b c d : Sort) → Tells None None u (say_wire_part reference (shape_of (a ∷ b ∷ c ∷ d ∷ [])))
+wire_part_four reference u a b c d = by_sort (λ s. Tells None None u (say_wire_part reference (shape_of (s ∷ b ∷ c ∷ d ∷ [])))) (search plain) a
+
+wire_part_five : (reference : Option LayerRef) (u : List Token) (a b c d e : Sort) → Tells None None u (say_wire_part reference (shape_of (a ∷ b ∷ c ∷ d ∷ e ∷ [])))
+wire_part_five reference u a b c d e = by_sort (λ s. Tells None None u (say_wire_part reference (shape_of (s ∷ b ∷ c ∷ d ∷ e ∷ [])))) (search plain) a
+
+wire_part : (reference : Option LayerRef) (u : List Token) → Tells None None u (say_wire_part reference (shape_in u))
+wire_part reference = by_shape (λ u. Tells None None u (say_wire_part reference (shape_in u))) (search (plain, wire_part_four, wire_part_five))
+
+cut_part_three : (reference : Option LayerRef) (u : List Token) (a b c : Sort) → Tells None None u (say_cut_part reference (shape_of (a ∷ b ∷ c ∷ [])))
+cut_part_three reference u a b c = by_sort (λ s. Tells None None u (say_cut_part reference (shape_of (s ∷ b ∷ c ∷ [])))) (search plain) a
+
+cut_part_five : (reference : Option LayerRef) (u : List Token) (a b c d e : Sort) → Tells None None u (say_cut_part reference (shape_of (a ∷ b ∷ c ∷ d ∷ e ∷ [])))
+cut_part_five reference u a b c d e = by_sort (λ s. Tells None None u (say_cut_part reference (shape_of (s ∷ b ∷ c ∷ d ∷ e ∷ [])))) (search plain) a
+
+cut_part_six : (reference : Option LayerRef) (u : List Token) (a b c d e f : Sort) → Tells None None u (say_cut_part reference (shape_of (a ∷ b ∷ c ∷ d ∷ e ∷ f ∷ [])))
+cut_part_six reference u a b c d e f = by_sort (λ s. Tells None None u (say_cut_part reference (shape_of (s ∷ b ∷ c ∷ d ∷ e ∷ f ∷ [])))) (search refl) a
+
+cut_part : (reference : Option LayerRef) (u : List Token) → Tells None None u (say_cut_part reference (shape_in u))
+cut_part reference = by_shape (λ u. Tells None None u (say_cut_part reference (shape_in u))) (search (cut_part_three, cut_part_five, cut_part_six))
 
 -- ## units at the top
 
@@ -221,20 +255,21 @@ rule_begins : (s : Statement) (name : List ℕ) → ((others : List Statement) �
 rule_begins s name layers rules kind = begins None (Some name) s layers rules kind
 
 -- A unit that says no statement says nothing of a name.
-head : (a : Sort) (name : List ℕ) → SaysOf (if the layer_word a then Some name else None) (if the rule_word a then Some name else None) (say_head a name)
-head a name = by_sort (λ s. SaysOf (if the layer_word s then Some name else None) (if the rule_word s then Some name else None) (say_head s name)) (search (layer_begins, rule_begins)) a
+head : (w v : Token) (a : Sort) → Tells (if the layer_word a then Some v.text else None) (if the rule_word a then Some v.text else None) (w ∷ v ∷ []) (say_head a)
+head w v a =
+    by_sort (λ s. Tells (if the layer_word s then Some v.text else None) (if the rule_word s then Some v.text else None) (w ∷ v ∷ []) (say_head s)) (search (layer_begins, rule_begins)) a
 
-at_top : (u : List Token) → Tells (head_with (the layer_word) u) (head_with (the rule_word) u) (say_top (shape_of u))
-at_top = by_shape (λ u. Tells (head_with (the layer_word) u) (head_with (the rule_word) u) (say_top (shape_of u))) (search head)
+at_top : (u : List Token) → Tells (head_with (the layer_word) u) (head_with (the rule_word) u) u (say_top (shape_in u))
+at_top = by_shape (λ u. Tells (head_with (the layer_word) u) (head_with (the rule_word) u) u (say_top (shape_in u))) (search head)
 
-tells : (section : Section) (reference : Option LayerRef) (u : List Token) → Tells (head_in (the layer_word) section u) (head_in (the rule_word) section u) (saying section reference (shape_of u))
-tells = by_section (λ section. (reference : Option LayerRef) (u : List Token) → Tells (head_in (the layer_word) section u) (head_in (the rule_word) section u) (saying section reference (shape_of u)))
+tells : (section : Section) (reference : Option LayerRef) (u : List Token) → Tells (head_in (the layer_word) section u) (head_in (the rule_word) section u) u (saying section reference (shape_in u))
+tells = by_section (λ section. (reference : Option LayerRef) (u : List Token) → Tells (head_in (the layer_word) section u) (head_in (the rule_word) section u) u (saying section reference (shape_in u)))
     (search (at_top, start, wire, cut, table, entries, part, wire_part, cut_part))
 
 -- What a unit says begins the layer or the rule of which it is the head, and no other.
-pub says : (section : Section) (reference : Option LayerRef) (u : List Token) (told : Option Statement) → Says (saying section reference (shape_of u)) told
+pub says : (section : Section) (reference : Option LayerRef) (u : List Token) (told : Option Statement) → Says u (saying section reference (shape_in u)) told
     → SaysOf (head_in (the layer_word) section u) (head_in (the rule_word) section u) told
-says section reference u told is = told_begins _ _ (saying section reference (shape_of u)) told (tells section reference u) is
+says section reference u told is = told_begins _ _ u (saying section reference (shape_in u)) told (tells section reference u) is
 
 -- ## all statements
 

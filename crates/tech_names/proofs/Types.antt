@@ -87,8 +87,14 @@ layer_word = sort_of_text (codes "LAYER")
 abbrev pub rule_word : Sort
 rule_word = sort_of_text (codes "VIARULE")
 
-abbrev pub semicolon : Sort
-semicolon = sort_of_text (codes ";")
+abbrev pub spacing_word : Sort
+spacing_word = sort_of_text (codes "SPACING")
+
+abbrev pub resistance_word : Sort
+resistance_word = sort_of_text (codes "RESISTANCE")
+
+abbrev pub current_word : Sort
+current_word = sort_of_text (codes "DCCURRENTDENSITY")
 
 -- What holds of no word, of each number of words up to six, and of more words, holds of all words.
 pub record EachShape (P : List Token → Type 0) : Type 0 where

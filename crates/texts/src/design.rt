@@ -135,10 +135,7 @@ fn printed(alloc: Global, read: Result<Design, DefError>) -> Result<Printed, All
             text: record(alloc, &design)?,
             status: RECORD,
         }),
-        Err(error) => match kind_text(error.kind) {
-            Some(kind) => refusal(alloc, error.place, kind),
-            None => Err(AllocError),
-        },
+        Err(error) => refusal(alloc, error.place, kind_text(error.kind)),
     }
 }
 

@@ -37,7 +37,14 @@ pub(crate) fn number_kind(error: DecimalError) -> &'static [u8] {
 }
 
 /// The line of a refusal.
-pub(crate) fn refusal(alloc: Global, place: Place, kind: &[u8]) -> Result<Printed, AllocError> {
+pub(crate) fn refusal(
+    alloc: Global,
+    place: Place,
+    kind: Option<&[u8]>,
+) -> Result<Printed, AllocError> {
+    let Some(kind) = kind else {
+        return Err(AllocError);
+    };
     let mut text = Vec::new(alloc);
     print(&mut text, i128::from(place.line), 0)?;
     text.push(b':')?;

@@ -157,8 +157,5 @@ pub(crate) fn told(alloc: Global, text: &[u8]) -> Result<Printed, AllocError> {
     if let SpiceKind::Net(refused) = &error.kind {
         return net_refusal(alloc, refused);
     }
-    match kind_text(&error.kind) {
-        Some(kind) => refusal(alloc, error.place, kind),
-        None => Err(AllocError),
-    }
+    refusal(alloc, error.place, kind_text(&error.kind))
 }

@@ -238,9 +238,6 @@ pub(crate) fn told(alloc: Global, text: &[u8]) -> Result<Printed, AllocError> {
             text: record(alloc, &script)?,
             status: RECORD,
         }),
-        Err(error) => match kind_text(error.kind) {
-            Some(kind) => refusal(alloc, error.place, kind),
-            None => Err(AllocError),
-        },
+        Err(error) => refusal(alloc, error.place, kind_text(error.kind)),
     }
 }

@@ -16,7 +16,7 @@ use crate::sort::{Sort, sort_of};
 use crate::value::Value;
 use number_place::texts_have_one_number;
 use outside::Name;
-use reading::{Found, Heard, Rule, ValueGrammar, Word, told_at};
+use reading::{Found, Grammar, Heard, Rule, Word, told_at};
 use std::alloc::AllocError;
 
 /// The format of the wave files of groups with these names.
@@ -25,7 +25,7 @@ pub(crate) struct WavesFormat<'n> {
     pub(crate) names: &'n [Name],
 }
 
-impl<'a, 'n> ValueGrammar<'a> for WavesFormat<'n> {
+impl<'a, 'n> Grammar<'a> for WavesFormat<'n> {
     type Sort = Sort;
 
     type Section = Section;

@@ -10,7 +10,7 @@ ghost use Rattle.wave_file.specs.declared.error.WavesKind.TheVariants.{Want};
 use crate::format::WavesFormat;
 use number_place::texts_have_one_number;
 use outside::Name;
-use reading::valued_texts_have_one_result;
+use reading::texts_have_one_result;
 use text_lex::one_split;
 
 /// A text has one record or one refusal for groups with these names, and not both; want of memory aside.
@@ -20,5 +20,5 @@ pub fn texts_have_one_waves(names: &[Name])
 {
     one_split();
     texts_have_one_number();
-    valued_texts_have_one_result(&WavesFormat { names });
+    texts_have_one_result(&WavesFormat { names });
 }

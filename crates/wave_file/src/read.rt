@@ -14,7 +14,7 @@ use entry_list::Entries;
 use name_places::NamePlaces;
 use number_place::values_fit_their_places;
 use outside::Name;
-use reading::{ReadError, read_valued_into};
+use reading::{ReadError, read_into};
 use short_merge::Merged;
 use std::alloc::{AllocError, Global};
 use text_lex::Mode;
@@ -59,7 +59,7 @@ pub fn read_group_waves(alloc: Global, text: &[u8], names: &[Name]) -> Result<Wa
         return Err(ReadError::want());
     };
     let mut held = Held::new(alloc, Groups::new(groups));
-    match read_valued_into(alloc, &WavesFormat { names }, &mut held, text, Mode::Lines) {
+    match read_into(alloc, &WavesFormat { names }, &mut held, text, Mode::Lines) {
         Ok(()) => Ok(waves_of(held)),
         Err(error) => Err(error),
     }

@@ -1,4 +1,6 @@
 pub mod Numbers
+pub mod Heard
+pub mod Lengths
 pub mod Standings
 pub mod Law
 pub mod Spelled

@@ -61,29 +61,6 @@ passed n xs i d within e = step n xs i d within ∙ ap (λ b. chosen b (get_or x
 pub none_left : (n : ℕ) (xs : Numbers) (i : ℕ) → length xs ≤ i → quantity_at n (drop i xs) ≡ None
 none_left n xs i h = ap (quantity_at n) (drop_all i xs h)
 
--- ## faults of numbers
-
-some_is : (a b : Quantity) → ◌≡◌ {A = Option Quantity} (Some a) (Some b) → a ≡ b
-some_is a b h = cc
-
--- What is found of the last word as a number is what is found of it.
-pub finds_number : (section : Section) (quantity : Quantity) (words : List Word) (n : ℕ) (text : List ℕ) (result : Option WiringKind) →
-    Some quantity ≡ quantity_at n (numbers_in section) → text ≡ text_at n (map token words) → n ≡ length words - 1 →
-    Finds (IsRefusedAs quantity text) result → Finds (IsNumberFault section (map token words)) result
-finds_number section quantity words n text None at same last h = λ kind fault.
-    let here : n ≡ length (map token words) - 1 = last ∙ ap (λ k. k - 1) (sym (length-map words token)) in
-    let it : fault.0 ≡ quantity = some_is fault.0 quantity (sym (at ∙ ap (λ k. quantity_at k (numbers_in section)) here ∙ fault.1)) in
-    h kind (subst (λ q. IsRefusedAs q text kind) it (subst (λ t. IsRefusedAs fault.0 t kind) (sym (same ∙ ap (λ k. text_at k (map token words)) here)) fault.2))
-finds_number section quantity words n text (Some kind) at same last h =
-    let here : n ≡ length (map token words) - 1 = last ∙ ap (λ k. k - 1) (sym (length-map words token)) in
-    (quantity, ap (λ k. quantity_at k (numbers_in section)) (sym here) ∙ sym at, subst (λ t. IsRefusedAs quantity t kind) (same ∙ ap (λ k. text_at k (map token words)) here) h)
-
-pub finds_none : (section : Section) (words : List Word) (n : ℕ) → None ≡ quantity_at n (numbers_in section) → n ≡ length words - 1 → (kind : WiringKind) →
-    IsNumberFault section (map token words) kind → ⊥
-finds_none section words n at last kind fault =
-    let here : n ≡ length (map token words) - 1 = last ∙ ap (λ k. k - 1) (sym (length-map words token)) in
-    let t : ◌≡◌ {A = Option Quantity} None (Some fault.0) = at ∙ ap (λ k. quantity_at k (numbers_in section)) here ∙ fault.1 in cc
-
 -- ## counts
 
 abbrev pub HasOne : Type 0
@@ -103,16 +80,3 @@ module _ (one : HasOne) (s : Standing) (part : List Token) (count entries : ℕ)
   pub from_miscounted : IsMiscounted s part → Differs count entries part
   from_miscounted (inl h) = inl (h.0, pos_is count s.entries (ok_is (pos s.entries) (pos count) (one (place_of NotNegative) s.count (Ok (pos count)) (Ok (pos s.entries)) known h.1)) ∙ sym many)
   from_miscounted (inr h) = inr (h.0, λ e. h.3 (ok_is (pos count) h.1 (one (place_of NotNegative) s.count (Ok h.1) (Ok (pos count)) h.2 known) ∙ ap pos (e ∙ many)))
-
--- ## the last fault
-
-abbrev pub syntax_or_none : Bool → Option WiringKind
-syntax_or_none b = if b then Some Syntax else None
-
-pub finds_last : (b : Bool) (s : Standing) (part : List Token) → (IsTrue b → IsUnfit s.section s part) → (IsUnfit s.section s part → IsTrue b)
-    → ((kind : WiringKind) → IsNumberFault s.section part kind → ⊥) → Finds (LastFault s part) (syntax_or_none b)
-finds_last true s part unfit fits none = inr (refl, unfit refl)
-finds_last false s part unfit fits none = λ kind h. elim h [ inl number ↦ none kind number | inr other ↦ no_true (fits other.1) ]
-  where
-    no_true : false ≡ true → ⊥
-    no_true e = cc

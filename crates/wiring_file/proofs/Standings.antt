@@ -1,5 +1,5 @@
 -- One more unit.
-use Rattle.std.proofs.Common.{◌≡◌, ◌≢◌, ℕ, ◌+◌, ◌==◌, ◌&&◌, not, Bool, true, false, pos, List, [], ◌∷◌, ◌++◌, filter, refl, sym, ap, subst, ◌∙◌, if◌then◌else◌}
+use Rattle.std.proofs.Common.{◌≡◌, ◌≢◌, ℕ, ◌+◌, ◌≤◌, ◌==◌, ◌&&◌, not, Bool, true, false, pos, List, [], ◌∷◌, ◌++◌, length, filter, arith, refl, sym, ap, subst, ◌∙◌, if◌then◌else◌}
 use Rattle.entry_list.specs.InTurn.{InTurn}
 use Rattle.entry_list.specs.Laws.{turn-added, turn-kept}
 use Rattle.reading.specs.Word.{Token}
@@ -9,11 +9,11 @@ use Rattle.wiring_file.specs.declared.record.WireText.{WireText}
 use Rattle.wiring_file.specs.declared.record.PlaceText.{PlaceText}
 use Rattle.wiring_file.specs.declared.section.Section.{Section}
 use Rattle.wiring_file.specs.declared.section.Section.TheVariants.{Version, DividerChar, BusBitChars, Design, Units, Die, ViasHead, Vias, NetsHead, Nets, First, Line, Next, DesignEnd, Ended}
-use Rattle.wiring_file.specs.Unit.{is_entry, is_place, ends_net}
+use Rattle.wiring_file.specs.Unit.{text_at, is_entry, is_place, ends_net}
 use Rattle.wiring_file.specs.Section.{section_number}
 use Rattle.wiring_file.specs.Fault.{HasCount}
 use Rattle.wiring_file.specs.Record.{is_via, is_wire, is_stacked, SaysVia, SaysWire, SaysPlace}
-use Rattle.wiring_file.specs.Standing.{Standing, start, after, leads, standing, standing_from, placed, placed_from, at}
+use Rattle.wiring_file.specs.Standing.{Standing, start, after, leads, standing, standing_from, placed, placed_from, at, one_more}
 use Rattle.wiring_file.specs.inside.Held.{Holds, is_counted, next_section}
 
 standing_more : (s : Standing) (units : List (List Token)) (unit : List Token) → standing_from s (units ++ unit ∷ []) ≡ after (standing_from s units) unit
@@ -23,6 +23,30 @@ standing_more s (u ∷ us) unit = standing_more (after s u) us unit
 placed_more : (s : Standing) (units : List (List Token)) (unit : List Token) → placed_from s (units ++ unit ∷ []) ≡ placed_from s units ++ (standing_from s units, unit) ∷ []
 placed_more s [] unit = refl
 placed_more s (u ∷ us) unit = ap (λ z. (s, u) ∷ z) (placed_more (after s u) us unit)
+
+-- ## entries are no more than units
+
+one_of : (b : Bool) (x y : Standing) (n : ℕ) → x.entries ≤ n → y.entries ≤ n → (if b then x else y).entries ≤ n
+one_of true x y n h k = h
+one_of false x y n h k = k
+
+leads_few : (X : Section) (s : Standing) (unit : List Token) → (leads X s unit).entries ≤ s.entries + 1
+leads_few Vias s unit = one_of (is_entry unit) (one_more Vias s) (at NetsHead s) (s.entries + 1) (omega arith) (omega arith)
+leads_few Nets s unit =
+    one_of (is_entry unit) (record { section = First; count = s.count; entries = s.entries + 1; net = text_at 1 unit; placed = false }) (at DesignEnd s) (s.entries + 1)
+    (omega arith) (omega arith)
+leads_few First s unit = one_of (ends_net unit) (at Nets s) (at Line s) (s.entries + 1) (omega arith) (omega arith)
+leads_few Next s unit = one_of (ends_net unit) (at Nets s) (at Line s) (s.entries + 1) (omega arith) (omega arith)
+leads_few X s unit = omega arith
+
+few_from : (s : Standing) (units : List (List Token)) → (standing_from s units).entries ≤ s.entries + length units
+few_from s [] = omega arith
+few_from s (unit ∷ units) = let one = leads_few s.section s unit in let all = few_from (after s unit) units in omega arith
+
+pub entries_few : (units : List (List Token)) → (standing units).entries ≤ length units
+entries_few units = let all = few_from start units in omega arith
+
+-- ## what is held
 
 -- What is held of where the next unit stands.
 pub record Stands (s : Standing) (held : Held) : Type 0 where

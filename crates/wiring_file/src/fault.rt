@@ -1,22 +1,26 @@
-//! The faults that the words of a unit show.
-ghost use Rattle.std.specs.Prelude.{◌≡◌, ◌≢◌, ◌↔◌, ◌⊎◌, ℤ, true, false, List, length, map, IsTrue, if◌then◌else◌};
-ghost use Rattle.reading.specs.Fault.{Finds};
-ghost use Rattle.reading.specs.Word.{Token, token};
-ghost use Rattle.wiring_file.specs.Fault.{kind_of, IsRefusedAs, IsNumberFault, Says, IsFlat, IsMiscounted, HasNoWidth, HasWidth, HasOtherShape, HasOtherEnd, IsUnfitLine, IsUnfit, LastFault};
+//! What the words of a unit say, or the faults that they show.
+ghost use Rattle.std.specs.Prelude.{◌≡◌, ◌≢◌, ◌↔◌, ◌⊎◌, ◌∷◌, ◌++◌, [], pos, true, false, List, Ok, length, map, IsTrue};
+ghost use Rattle.number_place.specs.Place.{IsNumberAt};
+ghost use Rattle.reading.specs.Fault.{FindsValue};
+ghost use Rattle.reading.specs.Grammar.{AreHeard};
+ghost use Rattle.reading.specs.Word.{Token, token, heard_token};
+ghost use Rattle.wiring_file.specs.declared.section.Section.TheVariants as sections;
+ghost use Rattle.wiring_file.specs.Fault.{kind_of, IsRefusedAs, IsFlat, IsUnfitLine, IsUnfit, LastFault};
+ghost use Rattle.wiring_file.specs.Number.{place_of};
+ghost use Rattle.wiring_file.specs.Sort.{the, sort_of};
 ghost use Rattle.wiring_file.specs.Standing.{standing};
-ghost use Rattle.wiring_file.specs.Unit.{is_entry};
 ghost use Rattle.wiring_file.specs.inside.Held.{Holds};
-ghost use Rattle.wiring_file.specs.inside.Number.{Tells};
+ghost use Rattle.wiring_file.specs.inside.Value.{IsRefusedAt, SaysAt, says};
 
 use crate::error::WiringKind;
 use crate::held::Held;
 use crate::number::{Quantity, number_at, read_number};
 use crate::section::Section;
 use crate::sort::{Sort, is_the};
-use crate::unit::{is_entry, sort_at, text_at};
+use crate::unit::value_at;
 use fixed_decimal::DecimalError;
 use number_place::{Refused, texts_have_one_number};
-use reading::Word;
+use reading::{Heard, Word};
 
 /// The kind of a number that is refused.
 fn kind_of(quantity: Quantity, refused: Refused) -> WiringKind
@@ -29,162 +33,141 @@ fn kind_of(quantity: Quantity, refused: Refused) -> WiringKind
     }
 }
 
-/// Why the text is refused as a number of this kind, if it is.
-fn refused_as(quantity: Quantity, text: &[u8]) -> Option<WiringKind>
-    ensures { Finds (IsRefusedAs quantity text.now) result }
+/// The number of this kind that the text is, or why it is refused.
+fn number_of(quantity: Quantity, text: &[u8]) -> Result<i64, WiringKind>
+    ensures { FindsValue (IsRefusedAs quantity text.now)
+        (λ value. IsNumberAt (place_of quantity) text.now (Ok value)) result }
 {
     match read_number(quantity, text) {
-        Ok(_) => None,
-        Err(refused) => Some(kind_of(quantity, refused)),
+        Ok(value) => Ok(value),
+        Err(refused) => Err(kind_of(quantity, refused)),
     }
 }
 
-/// Why the last word is refused as a number of the section, if it is.
-fn number_fault(section: Section, unit: &[Word<'_>]) -> Option<WiringKind>
-    ensures { Finds (IsNumberFault section (map token unit.now)) result }
+/// What the word says that has n words of a unit of the section before it: its number, or 0 where none stands there; or
+/// why it is refused.
+fn number_in(section: Section, n: usize, text: &[u8]) -> Result<i64, WiringKind>
+    ensures { FindsValue (IsRefusedAt section n text.now) (SaysAt section n text.now) result }
 {
-    let last = unit.len().saturating_sub(1);
-    match number_at(section, last) {
-        Some(quantity) => refused_as(quantity, text_at(last, unit)),
-        None => None,
+    match number_at(section, n) {
+        Some(quantity) => number_of(quantity, text),
+        None => Ok(0),
     }
-}
-
-/// The number that the word is, if it is one of this kind.
-fn value_at(quantity: Quantity, n: usize, unit: &[Word<'_>]) -> Option<i64>
-    ensures { Tells quantity n (map token unit.now) result }
-{
-    match read_number(quantity, text_at(n, unit)) {
-        Ok(value) => Some(value),
-        Err(_) => None,
-    }
-}
-
-/// Whether two words are one coordinate.
-fn same_coordinate(n: usize, m: usize, unit: &[Word<'_>]) -> bool
-    ensures { IsTrue result ↔ ((x : ℤ) × Says Quantity.Coordinate n (map token unit.now) x
-        × Says Quantity.Coordinate m (map token unit.now) x) }
-{
-    let Some(first) = value_at(Quantity::Coordinate, n, unit) else {
-        return false;
-    };
-    let Some(second) = value_at(Quantity::Coordinate, m, unit) else {
-        return false;
-    };
-    first == second
 }
 
 /// Whether the corners of the die have a coordinate in common.
-fn is_flat(unit: &[Word<'_>]) -> bool
-    ensures { IsTrue result ↔ IsFlat (map token unit.now) }
+fn is_flat(before: &[Heard<'_, i64>]) -> bool
+    ensures { AreHeard (says sections.Die) [] before.now → length before.now ≡ 9 → (word : Token) →
+        IsTrue result ↔ IsFlat (map heard_token before.now ++ word ∷ []) }
 {
-    same_coordinate(2, 6, unit) || same_coordinate(3, 7, unit)
+    texts_have_one_number();
+    let x1 = value_at(2, before);
+    let y1 = value_at(3, before);
+    let x2 = value_at(6, before);
+    let y2 = value_at(7, before);
+    have_one(x1, y1, x2, y2)
 }
 
-/// Whether the entry is one too many, or the list ends with too few.
-fn is_miscounted(count: u64, entries: u64, unit: &[Word<'_>]) -> bool
-    ensures { IsTrue result ↔ (((is_entry (map token unit.now) ≡ true) × (count ≡ entries))
-        ⊎ ((is_entry (map token unit.now) ≡ false) × (count ≢ entries))) }
+/// Whether two points have a coordinate in common.
+fn have_one(x1: i64, y1: i64, x2: i64, y2: i64) -> bool
+    ensures { IsTrue result ↔ ((x1 ≡ x2) ⊎ (y1 ≡ y2)) }
 {
-    if is_entry(unit) {
+    x1 == x2 || y1 == y2
+}
+
+/// Whether an entry is one too many, or the list ends with too few.
+fn is_miscounted(count: u64, entries: u64, entry: bool) -> bool
+    ensures { IsTrue result ↔ (((entry ≡ true) × (count ≡ entries)) ⊎ ((entry ≡ false) × (count ≢ entries))) }
+{
+    if entry {
         count == entries
     } else {
         count != entries
     }
 }
 
-/// Whether the first word of an entry or of the end of the list is refused for that.
-fn begins_miscounted(count: u64, entries: u64, unit: &[Word<'_>]) -> bool
-    ensures { IsTrue result ↔ ((length (map token unit.now) ≡ 1)
-        × (((is_entry (map token unit.now) ≡ true) × (count ≡ entries))
-        ⊎ ((is_entry (map token unit.now) ≡ false) × (count ≢ entries)))) }
+/// Whether a line has a width after a line of its net that has a via.
+fn has_late_width(placed: bool, width: i64) -> bool
+    ensures { IsTrue result ↔ ((placed ≡ true) × (width ≢ pos 0)) }
 {
-    unit.len() == 1 && is_miscounted(count, entries, unit)
-}
-
-/// Whether the line's width is 0.
-fn has_no_width(unit: &[Word<'_>]) -> bool
-    ensures { IsTrue result ↔ HasNoWidth (map token unit.now) }
-{
-    match value_at(Quantity::NotNegative, 1, unit) {
-        Some(width) => width == 0,
-        None => false,
-    }
-}
-
-/// Whether the line has a width other than 0.
-fn has_width(unit: &[Word<'_>]) -> bool
-    ensures { IsTrue result ↔ HasWidth (map token unit.now) }
-{
-    match value_at(Quantity::NotNegative, 1, unit) {
-        Some(width) => width != 0,
-        None => false,
-    }
+    placed && width != 0
 }
 
 /// Whether a line without a width has another shape than STRIPE.
-fn has_other_shape(unit: &[Word<'_>]) -> bool
-    ensures { IsTrue result ↔ HasOtherShape (map token unit.now) }
+fn has_other_shape(width: i64, shape: Sort) -> bool
+    ensures { IsTrue result ↔ ((width ≡ pos 0) × (the Sort.Stripe shape ≡ false)) }
 {
-    has_no_width(unit) && !is_the(Sort::Stripe, sort_at(4, unit))
+    width == 0 && !is_the(Sort::Stripe, shape)
 }
 
 /// Whether a line without a width goes to another point, or one with a width has a via.
-fn has_other_end(unit: &[Word<'_>]) -> bool
-    ensures { IsTrue result ↔ HasOtherEnd (map token unit.now) }
+fn has_other_end(width: i64, end: Sort) -> bool
+    ensures { IsTrue result ↔ (((width ≡ pos 0) × (the Sort.Open end ≡ true))
+        ⊎ ((width ≢ pos 0) × (the Sort.Open end ≡ false))) }
 {
-    if is_the(Sort::Open, sort_at(9, unit)) {
-        has_no_width(unit)
+    if is_the(Sort::Open, end) {
+        width == 0
     } else {
-        has_width(unit)
+        width != 0
     }
 }
 
-/// Whether the last word of a line does not fit what stands before it.
-fn is_unfit_line(placed: bool, unit: &[Word<'_>]) -> bool
-    ensures { IsTrue result ↔ IsUnfitLine placed (map token unit.now) }
+/// Whether the last word of a line, which has this sort and says this number, does not fit what stands before it.
+fn is_unfit_line(placed: bool, before: &[Heard<'_, i64>], sort: Sort, value: i64) -> bool
+    ensures { AreHeard (says sections.Line) [] before.now → (word : Token) → sort ≡ sort_of word →
+        SaysAt sections.Line (length before.now) word.text value →
+        IsTrue result ↔ IsUnfitLine placed (map heard_token before.now ++ word ∷ []) }
 {
-    match unit.len() {
-        2 => placed && has_width(unit),
-        5 => has_other_shape(unit),
-        10 => has_other_end(unit),
+    texts_have_one_number();
+    match before.len() {
+        1 => has_late_width(placed, value),
+        4 => has_other_shape(value_at(1, before), sort),
+        9 => has_other_end(value_at(1, before), sort),
         _ => false,
     }
 }
 
-/// Whether the last word does not fit what stands before it.
-fn is_unfit(said: &Held, unit: &[Word<'_>]) -> bool
+/// Whether the last word, which has this sort and says this number, does not fit what stands before it.
+fn is_unfit(said: &Held, before: &[Heard<'_, i64>], sort: Sort, value: i64) -> bool
     ensures { (units : List (List Token)) → Holds units said.now →
-        IsTrue result ↔ IsUnfit said.now.section (standing units) (map token unit.now) }
+        AreHeard (says said.now.section) [] before.now → (word : Token) → sort ≡ sort_of word →
+        SaysAt said.now.section (length before.now) word.text value →
+        IsTrue result ↔ IsUnfit said.now.section (standing units) (map heard_token before.now ++ word ∷ []) }
 {
     texts_have_one_number();
     match said.section {
-        Section::Die => unit.len() == 10 && is_flat(unit),
-        Section::Vias => begins_miscounted(said.count, said.entries, unit),
-        Section::Nets => begins_miscounted(said.count, said.entries, unit),
-        Section::Line => is_unfit_line(said.placed, unit),
+        Section::Die => before.len() == 9 && is_flat(before),
+        Section::Vias => is_begun_badly(said, before, sort),
+        Section::Nets => is_begun_badly(said, before, sort),
+        Section::Line => is_unfit_line(said.placed, before, sort, value),
         _ => false,
     }
 }
 
-/// Why the last word is refused, if it is.
-pub(crate) fn last_fault(said: &Held, unit: &[Word<'_>]) -> Option<WiringKind>
-    ensures { (units : List (List Token)) → Holds units said.now →
-        Finds (LastFault (standing units) (map token unit.now)) result }
+/// Whether the first word of an entry or of the end of the list is refused for the count of the list.
+fn is_begun_badly(said: &Held, before: &[Heard<'_, i64>], sort: Sort) -> bool
+    ensures { IsTrue result ↔ ((length before.now ≡ 0)
+        × (((the Sort.Minus sort ≡ true) × (said.now.count ≡ said.now.entries))
+        ⊎ ((the Sort.Minus sort ≡ false) × (said.now.count ≢ said.now.entries)))) }
 {
-    match number_fault(said.section, unit) {
-        Some(kind) => Some(kind),
-        None => syntax_if(is_unfit(said, unit)),
-    }
+    before.is_empty() && is_miscounted(said.count, said.entries, is_the(Sort::Minus, sort))
 }
 
-/// The kind of a word that does not fit.
-fn syntax_if(unfit: bool) -> Option<WiringKind>
-    ensures { result ≡ (if unfit then Some WiringKind.Syntax else None) }
+/// What the last word says, which has this sort, or why it is refused.
+pub(crate) fn last_value(
+    said: &Held,
+    before: &[Heard<'_, i64>],
+    word: &Word<'_>,
+    sort: Sort,
+) -> Result<i64, WiringKind>
+    ensures { (units : List (List Token)) → Holds units said.now →
+        AreHeard (says (standing units).section) [] before.now → sort ≡ sort_of (token word.now) →
+        FindsValue (LastFault (standing units) (map heard_token before.now ++ token word.now ∷ []))
+        (says (standing units).section (map heard_token before.now ++ token word.now ∷ [])) result }
 {
-    if unfit {
-        Some(WiringKind::Syntax)
-    } else {
-        None
+    let value = number_in(said.section, before.len(), word.text)?;
+    if is_unfit(said, before, sort, value) {
+        return Err(WiringKind::Syntax);
     }
+    Ok(value)
 }

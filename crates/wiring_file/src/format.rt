@@ -2,20 +2,21 @@
 ghost use Rattle.wiring_file.specs.Rule.{pattern};
 ghost use Rattle.wiring_file.specs.Format.{format};
 ghost use Rattle.wiring_file.specs.Sort.{all_sorts, number_of};
+ghost use Rattle.wiring_file.specs.Standing.{standing};
 ghost use Rattle.wiring_file.specs.inside.Held.{Holds};
+ghost use Rattle.wiring_file.specs.inside.Value.{says};
 ghost use Rattle.reading.specs.Grammar.{IsRegular};
 ghost use Rattle.reading.specs.Rule.{IsRule};
 
 use crate::error::WiringKind;
-use crate::fault::last_fault;
+use crate::fault::last_value;
 use crate::held::Held;
 use crate::rule::rule;
 use crate::section::Section;
 use crate::sort::{Sort, sort_of};
 use crate::taking::{next_section, take_count, take_line, take_net, take_start, take_via};
-use crate::unit::last_place;
 use number_place::texts_have_one_number;
-use reading::{Found, Grammar, Rule, Word, found_at};
+use reading::{Found, Grammar, Heard, Rule, Word, told_at};
 use std::alloc::AllocError;
 
 /// The format of written wirings.
@@ -31,9 +32,14 @@ impl<'a> Grammar<'a> for WiringFormat {
 
     type Kind = WiringKind;
 
+    /// A number, and 0 of each word that is none.
+    type Value = i64;
+
     ghost format = { λ wiring. format };
 
     ghost pattern = { pattern };
+
+    ghost says = { λ wiring units. says (standing units).section };
 
     ghost holds = { λ wiring held units. Holds units held };
 
@@ -51,22 +57,31 @@ impl<'a> Grammar<'a> for WiringFormat {
         rule(section)
     }
 
-    fn fault(&self, said: &Held, unit: &[Word<'a>]) -> Option<Found<WiringKind>> {
-        match last_place(unit) {
-            Some(last) => found_at(last, last_fault(said, unit)),
-            None => None,
-        }
+    fn hear(
+        &self,
+        said: &Held,
+        before: &[Heard<'a, i64>],
+        word: &Word<'a>,
+        sort: Sort,
+    ) -> Result<i64, Found<WiringKind>> {
+        told_at(before.len(), last_value(said, before, word, sort))
     }
 
     fn ends(&self, _said: &Held) -> bool {
         false
     }
 
-    fn take(&self, said: &mut Held, unit: &[Word<'a>]) -> Result<(), AllocError> {
+    fn take(&self, said: &mut Held, unit: &[Heard<'a, i64>]) -> Result<(), AllocError> {
         match said.section {
-            Section::ViasHead => take_count(said, unit, Section::Vias),
+            Section::ViasHead => {
+                take_count(said, unit, Section::Vias);
+                Ok(())
+            }
             Section::Vias => take_via(said, unit),
-            Section::NetsHead => take_count(said, unit, Section::Nets),
+            Section::NetsHead => {
+                take_count(said, unit, Section::Nets);
+                Ok(())
+            }
             Section::Nets => take_net(said, unit),
             Section::First => {
                 take_start(said, unit);

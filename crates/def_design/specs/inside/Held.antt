@@ -1,5 +1,5 @@
 -- What the reader holds after whole units.
-use Rattle.std.specs.Prelude.{◌≡◌, Bool, List, [], ◌∷◌, ◌++◌, Option, filter}
+use Rattle.std.specs.Prelude.{◌≡◌, Bool, List, [], ◌∷◌, ◌++◌, Option, filter, map}
 use Rattle.std.specs.List.{list_any}
 use Rattle.entry_list.specs.InTurn.{InTurn}
 use Rattle.named_entries.specs.Named.{NamedList, HoldsNamed}
@@ -13,18 +13,38 @@ use Rattle.def_design.specs.declared.record.Fence.{Fence}
 use Rattle.def_design.specs.declared.record.Row.{Row}
 use Rattle.def_design.specs.declared.regions.Regions.{Regions}
 use Rattle.def_design.specs.declared.top.Top.{Top}
+use Rattle.def_design.specs.declared.value.Value.{Value}
 use Rattle.def_design.specs.Fault.{head_name}
+use Rattle.def_design.specs.Format.{format}
+use Rattle.def_design.specs.inside.Value.{says}
 use Rattle.def_design.specs.Record.{Stated, SaysName, SaysUnits, SaysDie, SaysRow, SaysComponent, SaysSpacing, SaysBlockage, SaysRegion, entry_by, entry_of, each_after, blocks_wires}
 use Rattle.def_design.specs.Unit.{is_design, is_units, is_die, is_row, is_component, is_layer, is_spacing, excepts, is_region}
 use Rattle.def_statements.specs.Standing.{standing_of}
 use Rattle.def_statements.specs.Unit.{text_at}
 use Rattle.lef_statements.specs.First.{first_with}
 use Rattle.reading.specs.Blocks.{Block, blocks}
-use Rattle.reading.specs.Word.{Token}
+use Rattle.reading.specs.declared.word.Heard.{Heard}
+use Rattle.reading.specs.Grammar.{IsTaken, AreHeard}
+use Rattle.reading.specs.Word.{Token, heard_token}
 
 -- What was held leads to what is held after one more unit.
 abbrev pub Leads : {X : Type 0} → (List (List Token) → X → Type 0) → List Token → X → X → Type 0
 Leads holds unit old new = (units : List (List Token)) → holds units old → holds (units ++ unit ∷ []) new
+
+-- These words are a whole unit after these units, none of them has shown a fault, and each says its value.
+pub record IsWhole (units : List (List Token)) (unit : List (Heard Value)) : Type 0 where
+  pub wiring : Bool
+  pub taken : IsTaken (format wiring) units (map heard_token unit)
+  pub heard : AreHeard (says units) [] unit
+
+-- What holds wherever these words are a whole unit.
+abbrev pub WhenWhole : List (Heard Value) → Type 0 → Type 0
+WhenWhole unit held = (units : List (List Token)) → IsWhole units unit → held
+
+-- What was held of the units leads to what is held with a whole unit more.
+abbrev pub Takes : {X : Type 0} → (List (List Token) → X → Type 0) → List (Heard Value) → X → X → Type 0
+Takes holds unit old new = (units : List (List Token)) → IsWhole units unit → holds units old →
+    holds (units ++ map heard_token unit ∷ []) new
 
 -- What the first of the units of a kind says, if there is one.
 abbrev pub FirstSays : {E : Type 0} → (List Token → Bool) → (List Token → E → Type 0) → List (List Token) → Option E →
@@ -40,14 +60,14 @@ abbrev pub HoldsRows : List (List Token) → List Row → Type 0
 HoldsRows units rows = InTurn SaysRow (filter is_row units) rows
 
 abbrev pub components_of : Components → NamedList Component
-components_of said = record { names = said.names; entries = said.items.items }
+components_of said = record { names = said.names.names; entries = said.items.items }
 
 -- The entries of components with their names.
 abbrev pub HoldsComponents : List (List Token) → Components → Type 0
 HoldsComponents units said = HoldsNamed SaysComponent head_name (blocks is_component units) (components_of said)
 
 abbrev pub regions_of : Regions → NamedList Fence
-regions_of said = record { names = said.names; entries = said.items.items }
+regions_of said = record { names = said.names.names; entries = said.items.items }
 
 -- The entries of regions with their names.
 abbrev pub HoldsRegions : List (List Token) → Regions → Type 0

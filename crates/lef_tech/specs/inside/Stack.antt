@@ -1,8 +1,6 @@
 -- The layers that have been gathered.
-use Rattle.std.specs.Prelude.{◌≡◌, ◌++◌, [], ◌∷◌, List, Option, Some, None, length}
-use Rattle.lef_tech.specs.declared.layer.LayerRef.TheVariants as references
+use Rattle.std.specs.Prelude.{◌≡◌, ◌++◌, List, Option, length}
 use Rattle.lef_tech.specs.declared.stack.AnyLayer.{AnyLayer}
-use Rattle.lef_tech.specs.declared.stack.AnyLayer.TheVariants as layers
 use Rattle.lef_tech.specs.declared.stack.Stack.{Stack}
 use Rattle.lef_tech.specs.Record.{wires_of, cuts_of, order_from, with_layer}
 

@@ -39,17 +39,6 @@ pub record StandsAt {S C K : Type 0} (number : S → ℕ) (pattern : C → Patte
   pub rest : Denotes number nodes at (lefts (f.sort units) (pattern section) part)
   pub fine : NoneShows f units [] part
 
--- The unit's words so far, of which the last has this sort, stand after some whole units where the loop stands.
-pub record OpensUnit {S C K : Type 0} (number : S → ℕ) (pattern : C → Pattern S) (f : Format Token S K)
-    (holds : List (List Token) → Type 0)
-    (nodes : List Node) (at : ℕ) (unit : List Token) (sort : S) : Type 0 where
-  pub units : List (List Token)
-  pub part : List Token
-  pub last : Token
-  pub is : unit ≡ part ++ last ∷ []
-  pub sort_is : sort ≡ f.sort units last
-  pub stands : StandsAt number pattern f holds nodes at units part
-
 -- The unit's words so far stand after some whole units where the loop stands.
 abbrev pub Stands : {S C K : Type 0} → (S → ℕ) → (C → Pattern S) → Format Token S K → (List (List Token) → Type 0) →
     List Node → ℕ → List Token → Type 0

@@ -1,13 +1,17 @@
 -- What the reader holds after whole units.
-use Rattle.std.specs.Prelude.{◌≡◌, ◌⊎◌, Bool, true, false, pos, List, filter}
+use Rattle.std.specs.Prelude.{◌≡◌, ◌≤◌, ◌^◌, ◌⊎◌, ◌∷◌, ◌++◌, [], Bool, true, false, ℤ, pos, List, length, map, filter}
 use Rattle.entry_list.specs.InTurn.{InTurn}
-use Rattle.reading.specs.Word.{Token}
+use Rattle.reading.specs.declared.word.Heard.{Heard}
+use Rattle.reading.specs.Grammar.{AreHeard, IsTaken}
+use Rattle.reading.specs.Word.{Token, heard_token}
 use Rattle.wiring_file.specs.declared.held.Held.{Held}
 use Rattle.wiring_file.specs.declared.section.Section.{Section}
 use Rattle.wiring_file.specs.declared.section.Section.TheVariants.{Version, DividerChar, BusBitChars, Design, Units, Die, ViasHead, Vias, NetsHead, Nets, First, Line, Next, Ended}
 use Rattle.wiring_file.specs.Fault.{HasCount}
+use Rattle.wiring_file.specs.Format.{format}
 use Rattle.wiring_file.specs.Standing.{standing, placed}
 use Rattle.wiring_file.specs.Record.{is_via, is_wire, is_stacked, SaysVia, SaysWire, SaysPlace}
+use Rattle.wiring_file.specs.inside.Value.{says}
 
 -- Where the count of the open list is known: in the lists, and in the wiring of a net.
 abbrev pub is_counted : Section → Bool
@@ -27,6 +31,12 @@ pub record Holds (units : List (List Token)) (held : Held) : Type 0 where
   pub vias : InTurn SaysVia (filter is_via (placed units)) held.vias.items
   pub wires : InTurn SaysWire (filter is_wire (placed units)) held.wires.items
   pub places : InTurn SaysPlace (filter is_stacked (placed units)) held.places.items
+
+-- A whole unit, whose words were heard, is taken with what this unit says.
+abbrev pub Takes : Held → List (Heard ℤ) → Held → Type 0
+Takes old unit new = (units : List (List Token)) → length units ≤ 2 ^ 63 → Holds units old →
+    IsTaken format units (map heard_token unit) → AreHeard (says (standing units).section) [] unit →
+    Holds (units ++ map heard_token unit ∷ []) new
 
 -- The section after one in which each unit leads to the next.
 abbrev pub next_section : Section → Section

@@ -7,5 +7,5 @@ use Rattle.certificate_file.proofs.laws.texts_have_one_certificate.Goals as goal
 
 pub returns : goal.returns
 returns c = λ text a b. let names = c.args.names.now in
-    one-record kinds Lines (format names) (IsLists names) (λ bytes x y. c.one_split.ensures.one Lines bytes x y) c.valued_texts_have_one_result.ensures.read c.valued_texts_have_one_result.ensures.refused
-    c.valued_texts_have_one_result.ensures.not_both (one_lists c.texts_have_one_answer.ensures.integer names) text a b
+    one-record kinds Lines (format names) (IsLists names) (λ bytes x y. c.one_split.ensures.one Lines bytes x y) c.texts_have_one_result.ensures.read c.texts_have_one_result.ensures.refused
+    c.texts_have_one_result.ensures.not_both (one_lists c.texts_have_one_answer.ensures.integer names) text a b

@@ -18,4 +18,4 @@ returns-clause-keeps c = λ units h.
     } in
     design_kept c.values_fit_their_places.ensures.limit c.values_fit_their_places.ensures.sign units said design h
     (design_is units said design h top.is-0 top.is-1 top.is-2 c.new.ensures c.new-2.ensures c.new-3.ensures c.new-4.ensures)
-    c.new-2.ensures c.new-4.ensures c.len-components.ensures.distinct c.len-regions.ensures.distinct
+    c.new-2.ensures c.new-4.ensures c.into_entries-components.ensures.distinct c.into_entries-regions.ensures.distinct

@@ -1,4 +1,4 @@
-use Rattle.std.proofs.Common.{ℕ, ◌<◌, ◌≤◌, length, All, subst, arith}
+use Rattle.std.proofs.Common.{ℕ, ◌≤◌, All, subst, arith}
 use Rattle.std.proofs.lemmas.List.{take_all}
 use Rattle.std.proofs.lemmas.List.Elements.{All-more}
 use Rattle.lef_tech.proofs.keeping.points_keep.Goals as goal

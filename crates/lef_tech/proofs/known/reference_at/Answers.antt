@@ -1,6 +1,4 @@
-use Rattle.std.proofs.Common.{◌≡◌, get_or}
 use Rattle.std.proofs.lemmas.List.{get_or_default}
-use Rattle.lef_tech.specs.declared.known.Known.{Known}
 use Rattle.lef_tech.proofs.known.reference_at.Goals as goal
 
 pub returns : goal.returns

@@ -7,10 +7,10 @@ use Rattle.reading.specs.Word.{token}
 use Rattle.macro_blocks.proofs.fault.pin_fault.Goals as goal
 
 pub returns-in-Use : goal.returns-in-Use
-returns-in-Use c = λ numbers h.
+returns-in-Use c = λ numbers same h.
     let found = c.use_fault.result in
     let second = token c.args.second.now in
     subst (λ z. Finds (SecondFault Pin c.args.standing.now numbers z second) found) (sym c.in-Use.is)
     (subst (λ z. Finds (UseFault (is_supply (sort_of second)) z numbers) found) c.is_known-known.ensures
-    (subst (λ z. Finds (UseFault z c.is_known-known.result numbers) found) (c.is_supply.ensures ∙ ap is_supply c.sort_of.ensures)
+    (subst (λ z. Finds (UseFault z c.is_known-known.result numbers) found) (c.is_supply.ensures ∙ ap is_supply same)
     (c.use_fault.ensures numbers h)))

@@ -1,37 +1,28 @@
-use Rattle.std.proofs.Common.{◌≡◌, ℤ, List, map, sym, subst, to_z, of_z, rules}
+use Rattle.std.proofs.Common.{◌≡◌, ℕ, ◌<◌, ℤ, List, [], map, Some, refl, arith, length, to_z, of_z}
 use Rattle.std.specs.Int.{w64}
-use Rattle.reading.specs.Word.{Token, token}
+use Rattle.reading.specs.Word.{Token, heard_token}
 use Rattle.wiring_file.specs.declared.number.Quantity.TheVariants.{NotNegative, Positive}
-use Rattle.wiring_file.specs.Fault.{Says}
+use Rattle.wiring_file.specs.declared.section.Section.TheVariants.{Vias}
+use Rattle.wiring_file.proofs.Heard.{kept}
 use Rattle.wiring_file.proofs.taking.via_text.Goals as goal
 
 pub returns : goal.returns
-returns c =
-    let unit : List Token = map token c.args.unit.now in
-    let cut_x : to_z w64 (of_z w64 c.in_ok-cut_x.cut_x) ≡ c.in_ok-cut_x.cut_x = search rules in
-    let cut_y : to_z w64 (of_z w64 c.in_ok-cut_y.cut_y) ≡ c.in_ok-cut_y.cut_y = search rules in
-    let gap_x : to_z w64 (of_z w64 c.in_ok-gap_x.gap_x) ≡ c.in_ok-gap_x.gap_x = search rules in
-    let gap_y : to_z w64 (of_z w64 c.in_ok-gap_y.gap_y) ≡ c.in_ok-gap_y.gap_y = search rules in
-    let lower_x : to_z w64 (of_z w64 c.in_ok-lower_x.lower_x) ≡ c.in_ok-lower_x.lower_x = search rules in
-    let lower_y : to_z w64 (of_z w64 c.in_ok-lower_y.lower_y) ≡ c.in_ok-lower_y.lower_y = search rules in
-    let upper_x : to_z w64 (of_z w64 c.in_ok-upper_x.upper_x) ≡ c.in_ok-upper_x.upper_x = search rules in
-    let upper_y : to_z w64 (of_z w64 c.in_ok-upper_y.upper_y) ≡ c.in_ok-upper_y.upper_y = search rules in
-    let rows : to_z w64 (of_z w64 c.in_ok-rows.rows) ≡ c.in_ok-rows.rows = search rules in
-    let columns : to_z w64 (of_z w64 c.in_ok-columns.columns) ≡ c.in_ok-columns.columns = search rules in
-    λ s. record {
+returns c = λ s heard long.
+    let unit : List Token = map heard_token c.args.unit.now in
+    record {
       name = c.in_ok-name.ensures;
       rule = c.in_ok-rule.ensures;
-      cut_x = subst (Says Positive 7 unit) (sym cut_x) c.in_ok-cut_x.ensures;
-      cut_y = subst (Says Positive 8 unit) (sym cut_y) c.in_ok-cut_y.ensures;
+      cut_x = kept Positive 7 unit _ (c.value_at.ensures Vias Positive heard refl (omega arith));
+      cut_y = kept Positive 8 unit _ (c.value_at-2.ensures Vias Positive heard refl (omega arith));
       lower = c.in_ok-lower.ensures;
       cut = c.in_ok-cut.ensures;
       upper = c.in_ok-upper.ensures;
-      gap_x = subst (Says NotNegative 16 unit) (sym gap_x) c.in_ok-gap_x.ensures;
-      gap_y = subst (Says NotNegative 17 unit) (sym gap_y) c.in_ok-gap_y.ensures;
-      lower_x = subst (Says NotNegative 20 unit) (sym lower_x) c.in_ok-lower_x.ensures;
-      lower_y = subst (Says NotNegative 21 unit) (sym lower_y) c.in_ok-lower_y.ensures;
-      upper_x = subst (Says NotNegative 22 unit) (sym upper_x) c.in_ok-upper_x.ensures;
-      upper_y = subst (Says NotNegative 23 unit) (sym upper_y) c.in_ok-upper_y.ensures;
-      rows = subst (Says Positive 26 unit) (sym rows) c.in_ok-rows.ensures;
-      columns = subst (Says Positive 27 unit) (sym columns) c.in_ok-columns.ensures;
+      gap_x = kept NotNegative 16 unit _ (c.value_at-3.ensures Vias NotNegative heard refl (omega arith));
+      gap_y = kept NotNegative 17 unit _ (c.value_at-4.ensures Vias NotNegative heard refl (omega arith));
+      lower_x = kept NotNegative 20 unit _ (c.value_at-5.ensures Vias NotNegative heard refl (omega arith));
+      lower_y = kept NotNegative 21 unit _ (c.value_at-6.ensures Vias NotNegative heard refl (omega arith));
+      upper_x = kept NotNegative 22 unit _ (c.value_at-7.ensures Vias NotNegative heard refl (omega arith));
+      upper_y = kept NotNegative 23 unit _ (c.value_at-8.ensures Vias NotNegative heard refl (omega arith));
+      rows = kept Positive 26 unit _ (c.value_at-9.ensures Vias Positive heard refl (omega arith));
+      columns = kept Positive 27 unit _ (c.value_at-10.ensures Vias Positive heard refl (omega arith));
     }

@@ -1,20 +1,16 @@
-use Rattle.std.proofs.Common.{◌<◌, length, arith, [], ◌∷◌, ◌++◌, map, ◌∙◌, ap, subst}
+use Rattle.std.proofs.Common.{[], ◌∷◌, ◌++◌, map, ◌∙◌, ap, subst}
 use Rattle.name_table.specs.Numbering.{TakesName}
-use Rattle.def_design.proofs.Numbers.{new_name}
 use Rattle.def_design.proofs.Taking.{region_added}
-use Rattle.def_statements.specs.Unit.{text_at}
-use Rattle.reading.specs.Word.{token}
+use Rattle.def_design.proofs.Whole.{region_new, region_said, region_area}
+use Rattle.reading.specs.Word.{heard_token}
 use Rattle.def_design.proofs.regions.Regions.add.Goals as goal
 
 pub returns : goal.returns
-returns c =
-    let unit = map token c.args.unit.now in
-    let more : length c.args.self.now.names < length c.number.new.self =
-    omega (arith, c.has_grown.ensures.0 c.if-not-has_grown.false, c.len-before.ensures.len, c.len-after.ensures.len) in
-    let rect = c.in_ok-area_of.field-0 in
-    region_added unit c.args.self.now (record { names = c.number.new.self; items = c.push-2.new.self })
-    (record { name = c.in_ok-new.field-0; rects = c.new-2.result }) rect c.requires
-    (new_name c.args.self.now.names c.number.new.self c.text_at-name.result.now (text_at 1 unit) c.text_at-name.ensures more c.in-Ok.ensures.taken)
-    (subst (λ z. TakesName c.args.self.now.names c.number.new.self z) c.text_at-name.ensures c.in-Ok.ensures.taken) c.in_ok-push-2.ensures.items
+returns c = λ is units w.
+    let rect = c.rect_of.result in
+    region_added (map heard_token c.args.unit.now) c.args.self.now (record { names = c.add.new.self; items = c.push-2.new.self })
+    (record { name = c.in_ok-new.field-0; rects = c.new-2.result }) rect is
+    (subst (λ z. TakesName c.args.self.now.names.names c.add.new.self.names z) c.text_at-name.ensures c.in_ok-add.ensures.names) c.in_ok-push-2.ensures.items
     (c.in_ok-new.ensures ∙ c.text_at-name.ensures)
-    (c.new-2.ensures ∙ c.in_ok-push.ensures.items ∙ ap (λ z. z ++ rect ∷ []) c.new-rects.ensures.items) c.in_ok-area_of.ensures
+    (c.new-2.ensures ∙ c.in_ok-push.ensures.items ∙ ap (λ z. z ++ rect ∷ []) c.new-rects.ensures.items)
+    (region_area units c.args.unit.now rect w is (c.rect_of.ensures (region_said units c.args.unit.now w is))) units (region_new units c.args.unit.now w is)

@@ -1,6 +1,6 @@
-use Rattle.std.proofs.Common.{◌≡◌, true, false, ◌<◌, [], Contains, Some, None, map, List, length, get_or, slice_get, sym, ◌∙◌, ap, subst}
+use Rattle.std.proofs.Common.{◌≡◌, true, false, ◌<◌, [], Contains, Some, None, List, length, get_or, slice_get, sym, ◌∙◌, ap, subst}
 use Rattle.lef_tech.specs.declared.known.Known.{Known}
-use Rattle.lef_tech.specs.Known.{name_of, reference_in}
+use Rattle.lef_tech.specs.Known.{reference_in}
 use Rattle.lef_tech.proofs.Layers.{none_named, within, found_at_number, names_kept}
 use Rattle.lef_tech.proofs.known.Layers.reference.Goals as goal
 use Rattle.name_table.specs.Numbering.{AreDistinct}

@@ -5,5 +5,5 @@ use Rattle.macro_blocks.proofs.held.Sections.ends_obstructions.Goals as goal
 pub returns : goal.returns
 returns c = λ there unit.
     let old = c.args.self.now in
-    obstructions_lead there unit old (record old { obstructions = c.append.new.self; rects = c.append.new.other }) c.in-None.is refl refl
+    obstructions_lead c.texts_have_one_number.ensures there unit old (record old { obstructions = c.append.new.self; rects = c.append.new.other }) refl refl
     c.in_ok-append.ensures.items refl c.in_ok-append.ensures.other_items refl

@@ -9,6 +9,6 @@ pub returns : goal.returns
 returns c = λ there unit called.
     let old = c.args.self.now in
     let pin = c.in_ok-pin_of in
-    pin_leads c.args.power there unit c.args.name.now old (record old { pins = c.push.new.self; rects = c.replace-rects.new.dest }) pin.field-0 called c.in-None.is
+    pin_leads c.texts_have_one_number.ensures c.args.power there unit c.args.name.now old (record old { pins = c.push.new.self; rects = c.replace-rects.new.dest }) pin.field-0 called
     pin.ensures.name pin.ensures.power (pin.ensures.rects ∙ ap (λ (z : Vec BlockRect Global). z.items) c.replace-rects.ensures.value) refl c.in_ok-push.ensures.items refl refl
     (ap (λ (z : Vec BlockRect Global). z.items) c.replace-rects.ensures.after ∙ c.new.ensures.items) refl

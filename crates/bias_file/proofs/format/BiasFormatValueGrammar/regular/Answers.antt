@@ -1,5 +1,0 @@
-use Rattle.bias_file.proofs.Law.{regular}
-use Rattle.bias_file.proofs.format.BiasFormatValueGrammar.regular.Goals as goal
-
-pub returns : goal.returns
-returns c = regular c.texts_have_one_number.ensures

@@ -1,5 +1,0 @@
-use Rattle.certificate_file.proofs.Law.{regular}
-use Rattle.certificate_file.proofs.format.CertificateFormatValueGrammar.regular.Goals as goal
-
-pub returns : goal.returns
-returns c = regular c.texts_have_one_answer.ensures.integer c.args.self.now.names.now

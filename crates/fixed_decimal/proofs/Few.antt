@@ -2,13 +2,15 @@
 use Rattle.std.proofs.Common.{◌≡◌, ℕ, zero, suc, ◌+◌, ◌-◌, ◌*◌, ◌^◌, ◌<◌, ◌≤◌, Bool, false, List, [], ◌∷◌, ◌++◌, length, take, drop, get_or, Option, IfSome, take-append-drop, Some, None, ℤ, pos, arith, ap, sym, ◌∙◌, refl, subst, mul_assoc, codes}
 use Rattle.std.specs.Prelude.{unsigned_abs}
 use Rattle.std.specs.Option.{SomeIff}
-use Rattle.std.specs.Char.{IsAsciiDigit}
+use Rattle.std.specs.Char.{IsAsciiAlphabetic, IsAsciiDigit}
 use Rattle.std.specs.Str.Parse.{AllDigits, digits_value, digits_value_after}
 use Rattle.std.proofs.Math.Nat.{mul-le-mul_right}
 use Rattle.std.proofs.lemmas.Int.Digits.{digits_value-lt}
 use Rattle.std.proofs.lemmas.List.{append-nil, length-append, length-take-le, take_all}
-use Rattle.fixed_decimal.specs.Number.{is_minus, sign_text, fraction_text, fraction_digits, Spelling, Number, number_of, IsDecimal}
-use Rattle.fixed_decimal.specs.Value.{IsNearest, IsValue, DecimalReads, signed}
+use Rattle.std.proofs.lemmas.List.Elements.{All-nil}
+use Rattle.fixed_decimal.specs.Number.{is_minus, sign_text, fraction_text, fraction_digits, spelling_text, Spelling, Number, number_of, IsDecimal}
+use Rattle.fixed_decimal.specs.Spice.{IsSpice}
+use Rattle.fixed_decimal.specs.Value.{IsNearest, IsValue, DecimalReads, SpiceReads, signed}
 use Rattle.fixed_decimal.specs.Short.{IsShort}
 use Rattle.fixed_decimal.specs.inside.Short.{IsExactly, IsRaised, IsShortFraction}
 use Rattle.fixed_decimal.specs.inside.Split.{TakesSign, IsRun, begins_digit, begins_sign}
@@ -17,6 +19,7 @@ use Rattle.fixed_decimal.proofs.Answering.{abs_signed}
 use Rattle.fixed_decimal.proofs.Powers.{ten_pos, ten_add, ten_le}
 use Rattle.fixed_decimal.proofs.Rounding.{nearest_whole}
 use Rattle.fixed_decimal.proofs.Runs.{value_after_more, value_of_digit, run_more, value_after_append}
+use Rattle.fixed_decimal.proofs.Settled.{scaled_by_one}
 use Rattle.fixed_decimal.proofs.Taking.{rest_is}
 
 -- The digits that are read so far, after those of before.
@@ -142,6 +145,22 @@ reads_wider places limit more text v w le same (n, is, a) = (
     stays = λ zero. a.stays (sym same ∙ zero);
   },
 )
+
+-- A number without a scale is one whose scale is 1.
+decimal_is_spice : (text : List ℕ) (n : Number) → IsDecimal text n → IsSpice text n
+decimal_is_spice text n is = record {
+  spelling = is.spelling;
+  letters = [];
+  form = is.form;
+  scale = record { only_letters = All-nil IsAsciiAlphabetic; no_mil = refl };
+  is = is.is ∙ sym (append-nil (spelling_text is.spelling));
+  value = is.value ∙ sym (scaled_by_one (number_of is.spelling));
+}
+
+pub spice_reads_wider : (places limit more : ℕ) (text : List ℕ) (v w : ℤ) → limit ≤ more → w ≡ v → DecimalReads places limit text v → SpiceReads places more text w
+spice_reads_wider places limit more text v w le same reads =
+    let wider = reads_wider places limit more text v w le same reads in
+    (wider.0, decimal_is_spice text wider.0 wider.1, wider.2)
 
 -- ## values that stand surely
 

@@ -1,6 +1,6 @@
 //! Values printed as text.
 
-ghost use Rattle.std.specs.Prelude.{◌≡◌, ℕ, ◌+◌, ◌-◌, ◌^◌, ◌<◌, ◌≤◌, ◌<ℤ◌, ℤ, pos, take, ◌++◌, decimal, OnOk, OnErr, vec_len, replicate};
+ghost use Rattle.std.specs.Prelude.{◌≡◌, ℕ, ◌+◌, ◌-◌, ◌^◌, ◌<◌, ◌≤◌, ◌<ℤ◌, ℤ, pos, take, ◌++◌, decimal, OnOk, OnErr, vec_len, replicate, ◌/◌, ◌%◌};
 ghost use Rattle.fixed_decimal.specs.inside.Rounded.{IsRounded};
 ghost use Rattle.fixed_decimal.specs.Printed.{minus_text, padded, places_text, printed, IsRoundedDown, IsRoundedUp};
 
@@ -121,16 +121,52 @@ fn append(out: &mut Vec<u8>, value: i128, places: u32) -> Result<(), AllocError>
     ensures err { OnErr result (take (vec_len out.old) out.new.items ≡ out.old.items) }
 {
     let magnitude = value.unsigned_abs();
-    let unit = 10u128.pow(places);
     if value < 0 {
         out.push(b'-')?;
     }
-    append_number(out, magnitude / unit)?;
+    append_number(out, whole_of(magnitude, places))?;
     append_places(out, magnitude, places)
+}
+
+/// How many whole units `n` units of 10^-places are. With 9 places and a number of 64 bits no wide division is made.
+fn whole_of(n: u128, places: u32) -> u128
+    requires { places ≤ 30 }
+    ensures { result ≡ n / 10 ^ places }
+{
+    if places == 0 {
+        return n;
+    }
+    if places == 9 && n <= u64::MAX as u128 {
+        return (n as u64 / 1_000_000_000) as u128;
+    }
+    n / 10u128.pow(places)
+}
+
+/// What `n` units of 10^-places have behind the point.
+fn behind_point(n: u128, places: u32) -> u128
+    requires { places ≤ 30 }
+    ensures { result ≡ n % 10 ^ places }
+{
+    if places == 9 && n <= u64::MAX as u128 {
+        return (n as u64 % 1_000_000_000) as u128;
+    }
+    n % 10u128.pow(places)
 }
 
 /// Appends the digits of `n`.
 fn append_number(out: &mut Vec<u8>, n: u128) -> Result<(), AllocError>
+    ensures ok { OnOk result (out.new.items ≡ out.old.items ++ decimal n) }
+    ensures err { OnErr result (out.new.items ≡ out.old.items) }
+{
+    if n > u64::MAX as u128 {
+        return append_wide(out, n);
+    }
+    let mut buffer = Buffer::new();
+    out.extend_from_slice(buffer.format(n as u64).as_bytes())
+}
+
+/// Appends the digits of a number beyond 64 bits.
+fn append_wide(out: &mut Vec<u8>, n: u128) -> Result<(), AllocError>
     ensures ok { OnOk result (out.new.items ≡ out.old.items ++ decimal n) }
     ensures err { OnErr result (out.new.items ≡ out.old.items) }
 {
@@ -149,7 +185,7 @@ fn append_places(out: &mut Vec<u8>, n: u128, places: u32) -> Result<(), AllocErr
         return Ok(());
     }
     out.push(b'.')?;
-    append_padded(out, n % 10u128.pow(places), places)
+    append_padded(out, behind_point(n, places), places)
 }
 
 /// Appends the digits of `n`, with zeros before them up to so many digits. At an error `out` may have grown.

@@ -80,6 +80,19 @@ pub fn read_spice(text: &[u8], places: u32, limit: u128) -> Result<i128, Decimal
     ensures answer { IsAnswer IsSpice places limit text.now result }
     ensures only { (other : Result ℤ Error) → IsAnswer IsSpice places limit text.now other → other ≡ result }
 {
+    match short_value(text, places, small_limit(limit)) {
+        Some(value) => Ok(i128::from(value)),
+        None => read_scaled_in_full(text, places, limit),
+    }
+}
+
+/// The same as `read_spice`, of any text.
+#[inline(never)]
+fn read_scaled_in_full(text: &[u8], places: u32, limit: u128) -> Result<i128, DecimalError>
+    requires places { places ≤ 30 }
+    requires limit { limit ≤ 10 ^ 37 }
+    ensures { IsAnswer IsSpice places limit text.now result }
+{
     let Some((number, letters)) = split(text) else {
         return Err(DecimalError::NotNumber);
     };

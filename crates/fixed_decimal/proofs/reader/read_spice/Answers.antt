@@ -1,68 +1,50 @@
-use Rattle.std.proofs.Common.{◌≡◌, sym}
-use Rattle.fixed_decimal.specs.inside.Kept.{AnswersNumber}
-use Rattle.fixed_decimal.specs.Number.{Number, number_of}
-use Rattle.fixed_decimal.specs.Spice.{IsSpice, scaled}
-use Rattle.fixed_decimal.proofs.Settled.{settled_value, settled_not_number, settled_vanishes, settled_range, settled_answer, no_value, no_vanishing, no_range, not_a_number, no_spice, the_spice, only_spice}
-use Rattle.fixed_decimal.proofs.TextLaws.{answer_once, spice_unique}
+use Rattle.std.proofs.Common.{rules, Ok, FitsSigned, to_z, of_z, ◌∙◌}
+use Rattle.std.specs.Int.{w64, w128}
+use Rattle.std.proofs.lemmas.Int.{to_z-of_z}
+use Rattle.fixed_decimal.specs.Spice.{IsSpice}
+use Rattle.fixed_decimal.specs.Value.{IsAnswer}
+use Rattle.fixed_decimal.proofs.Answered.{answers_value, answers_not_number, answers_vanishes, answers_range, answers_only}
+use Rattle.fixed_decimal.proofs.Few.{spice_reads_wider}
+use Rattle.fixed_decimal.proofs.TextLaws.{spice_unique}
 use Rattle.fixed_decimal.proofs.reader.read_spice.Goals as goal
-use Rattle.fixed_decimal.proofs.reader.read_spice.Goals.{In_default-scale_of, After-rounded}
+use Rattle.fixed_decimal.proofs.reader.read_spice.Goals.{After-from}
 
--- ---- a number and no scale after it.
-no_scale : (c : In_default-scale_of) (n : Number) → IsSpice c.args.text.now n → ⊥
-no_scale c = no_spice c.args.text.now c.in-Some.number c.in-Some.letters.now c.in-Some.ensures.some c.in_default-scale_of.ensures.none
+answered : (c : After-from) → IsAnswer IsSpice c.args.places c.args.limit c.args.text.now (Ok (to_z w128 (of_z w128 c.from.result)))
+answered c =
+    let fits : FitsSigned w128 c.from.result = search rules in
+    let few : FitsSigned w64 c.in-Some.value = search rules in
+    spice_reads_wider c.args.places c.small_limit.result c.args.limit c.args.text.now c.in-Some.value (to_z w128 (of_z w128 c.from.result)) c.small_limit.ensures.within
+    (to_z-of_z w128 c.from.result fits ∙ (c.from.ensures ∙ to_z-of_z w64 c.in-Some.value few)) c.in-Some.ensures
 
-pub returns-in_default-scale_of-clause-value : goal.returns-in_default-scale_of-clause-value
-returns-in_default-scale_of-clause-value c = no_value IsSpice c.args.text.now (no_scale c) c.args.places c.args.limit
+pub returns-in-Some-clause-answer : goal.returns-in-Some-clause-answer
+returns-in-Some-clause-answer c = answered c
 
-pub returns-in_default-scale_of-clause-not_number :
-    goal.returns-in_default-scale_of-clause-not_number
-returns-in_default-scale_of-clause-not_number c = not_a_number IsSpice c.args.text.now (no_scale c)
+pub returns-in-Some-clause-value : goal.returns-in-Some-clause-value
+returns-in-Some-clause-value c = answers_value IsSpice c.args.places c.args.limit c.args.text.now (spice_unique c.args.text.now) _ (answered c)
 
-pub returns-in_default-scale_of-clause-vanishes : goal.returns-in_default-scale_of-clause-vanishes
-returns-in_default-scale_of-clause-vanishes c = no_vanishing IsSpice c.args.text.now (no_scale c) c.args.places
+pub returns-in-None-clause-value : goal.returns-in-None-clause-value
+returns-in-None-clause-value c = answers_value IsSpice c.args.places c.args.limit c.args.text.now (spice_unique c.args.text.now) c.read_scaled_in_full.result c.read_scaled_in_full.ensures
 
-pub returns-in_default-scale_of-clause-range : goal.returns-in_default-scale_of-clause-range
-returns-in_default-scale_of-clause-range c = no_range IsSpice c.args.text.now (no_scale c) c.args.places c.args.limit
+pub returns-in-Some-clause-not_number : goal.returns-in-Some-clause-not_number
+returns-in-Some-clause-not_number c = answers_not_number IsSpice c.args.places c.args.limit c.args.text.now (spice_unique c.args.text.now) _ (answered c)
 
--- ---- a number and its scale.
-module _ (c : After-rounded) where
-  the_number : Number
-  the_number = scaled (number_of c.in-Some.ensures.some.spelling) c.in-Some-scale_of.scale
+pub returns-in-None-clause-not_number : goal.returns-in-None-clause-not_number
+returns-in-None-clause-not_number c = answers_not_number IsSpice c.args.places c.args.limit c.args.text.now (spice_unique c.args.text.now) c.read_scaled_in_full.result c.read_scaled_in_full.ensures
 
-  is_number : IsSpice c.args.text.now the_number
-  unfolding the_number
-  is_number = the_spice c.args.text.now c.in-Some.number c.in-Some.letters.now c.in-Some.ensures.some c.in-Some-scale_of.scale c.in-Some-scale_of.ensures.text c.in-Some-scale_of.ensures.value
+pub returns-in-Some-clause-vanishes : goal.returns-in-Some-clause-vanishes
+returns-in-Some-clause-vanishes c = answers_vanishes IsSpice c.args.places c.args.limit c.args.text.now (spice_unique c.args.text.now) _ (answered c)
 
-  only : (m : Number) → IsSpice c.args.text.now m → m ≡ the_number
-  unfolding the_number
-  only = only_spice c.args.text.now c.in-Some.number c.in-Some.letters.now c.in-Some.ensures.some c.in-Some-scale_of.scale c.in-Some-scale_of.ensures.value
+pub returns-in-None-clause-vanishes : goal.returns-in-None-clause-vanishes
+returns-in-None-clause-vanishes c = answers_vanishes IsSpice c.args.places c.args.limit c.args.text.now (spice_unique c.args.text.now) c.read_scaled_in_full.result c.read_scaled_in_full.ensures
 
-  answered : AnswersNumber the_number c.args.places c.args.limit c.rounded.result
-  unfolding the_number
-  answered = c.rounded.ensures (number_of c.in-Some.ensures.some.spelling) (sym c.in-Some.ensures.some.negative) c.in-Some.ensures.some.describes
+pub returns-in-Some-clause-range : goal.returns-in-Some-clause-range
+returns-in-Some-clause-range c = answers_range IsSpice c.args.places c.args.limit c.args.text.now (spice_unique c.args.text.now) _ (answered c)
 
-pub returns-clause-value : goal.returns-clause-value
-returns-clause-value c = settled_value IsSpice c.args.text.now c.args.places c.args.limit c.rounded.result (the_number c) (is_number c) (only c) (answered c)
+pub returns-in-None-clause-range : goal.returns-in-None-clause-range
+returns-in-None-clause-range c = answers_range IsSpice c.args.places c.args.limit c.args.text.now (spice_unique c.args.text.now) c.read_scaled_in_full.result c.read_scaled_in_full.ensures
 
-pub returns-clause-not_number : goal.returns-clause-not_number
-returns-clause-not_number c = settled_not_number IsSpice c.args.text.now c.args.places c.args.limit c.rounded.result (the_number c) (is_number c) (only c) (answered c)
+pub returns-in-Some-clause-only : goal.returns-in-Some-clause-only
+returns-in-Some-clause-only c = answers_only IsSpice c.args.places c.args.limit c.args.text.now (spice_unique c.args.text.now) _ (answered c)
 
-pub returns-clause-vanishes : goal.returns-clause-vanishes
-returns-clause-vanishes c = settled_vanishes IsSpice c.args.text.now c.args.places c.args.limit c.rounded.result (the_number c) (is_number c) (only c) (answered c)
-
-pub returns-clause-range : goal.returns-clause-range
-returns-clause-range c = settled_range IsSpice c.args.text.now c.args.places c.args.limit c.rounded.result (the_number c) (is_number c) (only c) (answered c)
-
-pub returns-clause-answer : goal.returns-clause-answer
-returns-clause-answer c = settled_answer IsSpice c.args.text.now c.args.places c.args.limit c.rounded.result (the_number c) (is_number c) (answered c)
-
-pub returns-in_default-scale_of-clause-answer : goal.returns-in_default-scale_of-clause-answer
-returns-in_default-scale_of-clause-answer c = no_scale c
-
-pub returns-in_default-scale_of-clause-only : goal.returns-in_default-scale_of-clause-only
-returns-in_default-scale_of-clause-only c = λ other a. answer_once IsSpice c.args.places c.args.limit c.args.text.now (spice_unique c.args.text.now) other _ a (no_scale c)
-
-pub returns-clause-only : goal.returns-clause-only
-returns-clause-only c = λ other a.
-    answer_once IsSpice c.args.places c.args.limit c.args.text.now (spice_unique c.args.text.now) other c.rounded.result a
-    (settled_answer IsSpice c.args.text.now c.args.places c.args.limit c.rounded.result (the_number c) (is_number c) (answered c))
+pub returns-in-None-clause-only : goal.returns-in-None-clause-only
+returns-in-None-clause-only c = answers_only IsSpice c.args.places c.args.limit c.args.text.now (spice_unique c.args.text.now) c.read_scaled_in_full.result c.read_scaled_in_full.ensures

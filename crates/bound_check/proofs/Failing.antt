@@ -41,7 +41,7 @@ limit_out limit z e =
     let b = both_true (le_z (neg_ℤ (pos limit)) z) (le_z z (pos limit)) e in
     (le_out (neg_ℤ (pos limit)) z b.0, le_out z (pos limit) b.1)
 
-limit_in : (limit : ℕ) (z : ℤ) → IsInLimit limit z → in_limit limit z ≡ true
+pub limit_in : (limit : ℕ) (z : ℤ) → IsInLimit limit z → in_limit limit z ≡ true
 limit_in limit z h = true_both (le_z (neg_ℤ (pos limit)) z) (le_z z (pos limit)) (le_in (neg_ℤ (pos limit)) z h.0) (le_in z (pos limit) h.1)
 
 -- Two tests, high before low.
@@ -51,7 +51,7 @@ two_pass a b node node' side side' found found' e = (
   passes b node' side' found' (none_second (unless a node side found) (unless b node' side' found') e),
 )
 
-two_passed : (a b : Bool) (node node' : ℕ) (side side' : Side) (found found' : ℤ) → a ≡ true → b ≡ true → or_else (unless a node side found) (unless b node' side' found') ≡ None
+pub two_passed : (a b : Bool) (node node' : ℕ) (side side' : Side) (found found' : ℤ) → a ≡ true → b ≡ true → or_else (unless a node side found) (unless b node' side' found') ≡ None
 two_passed a b node node' side side' found found' e f = none_both (unless a node side found) (unless b node' side' found') (passed a node side found e) (passed b node' side' found' f)
 
 module _ (net : Network) (high low : ℕ → ℤ) where

@@ -1,5 +1,5 @@
 -- What a kept certificate says of the solutions of its network, and how close its bounds are.
-use Rattle.std.proofs.Common.{◌∙◌, ap, List, ◌≡◌, ℕ, ◌<◌, ℤ, pos, ◌+ℤ◌, ◌-ℤ◌, ◌*ℤ◌, ◌≤ℤ◌, ◌<ℤ◌, arith, refl, sym, subst, length, get_or}
+use Rattle.std.proofs.Common.{◌∙◌, ap, List, ◌≡◌, ℕ, ◌<◌, ℤ, pos, ◌+ℤ◌, ◌-ℤ◌, ◌*ℤ◌, ◌≤ℤ◌, ◌<ℤ◌, arith, sym, subst, length, get_or}
 use Rattle.std.proofs.lemmas.Int.{ints}
 use Rattle.std.proofs.lemmas.List.{get_or_default}
 use Rattle.rounding.specs.Rounding.{floor_div, ceil_div}

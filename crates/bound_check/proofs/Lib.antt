@@ -7,3 +7,4 @@ pub mod Rules
 pub mod Tightness
 pub mod Printed
 pub mod Kept
+pub mod Adding

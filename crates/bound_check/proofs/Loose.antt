@@ -1,9 +1,9 @@
 -- No node misses the tightness exactly where the two lists are tight, if the two halves of the sums hold.
-use Rattle.std.proofs.Common.{◌≡◌, ℕ, ◌+◌, ◌*◌, ◌<◌, ℤ, pos, negsuc, ◌-ℤ◌, ◌≤ℤ◌, arith, refl, sym, ap, subst, List, Option, Some, None, Bool, true, false, cond}
+use Rattle.std.proofs.Common.{◌≡◌, ℕ, ◌<◌, ℤ, pos, negsuc, ◌-ℤ◌, ◌≤ℤ◌, arith, refl, sym, ap, subst, List, Option, Some, None, Bool, true, false, cond}
 use Rattle.std.proofs.lemmas.Int.{ints, clamps}
 use lib.Signed.{le_z}
 use Rattle.std.specs.Int.{int_max}
-use Rattle.grid_net.specs.Network.{Network, entry_of, pad_at, degree}
+use Rattle.grid_net.specs.Network.{Network, entry_of, pad_at}
 use Rattle.grid_net.specs.Certificate.{HighHolds, LowHolds, IsTight, high_sum, low_sum, most_excess}
 use Rattle.bound_check.specs.Loose.{excess, greatest_excess, loose_test, first_loose}
 use Rattle.grid_net.specs.Laws.Search.{none_below, below_none}

@@ -1,5 +1,5 @@
 -- The maximum principle: each solution lies between the two lists of a certificate.
-use Rattle.std.proofs.Common.{◌≡◌, ◌∙◌, ap, ℕ, zero, suc, ◌<◌, Bool, true, false, cond, eqb, ℤ, pos, negsuc, neg_ℤ, ◌+ℤ◌, ◌-ℤ◌, ◌*ℤ◌, ◌≤ℤ◌, arith, refl, sym, subst, List, [], ◌∷◌, All, length, Option, Some, None, suc-le-suc, get_or}
+use Rattle.std.proofs.Common.{◌≡◌, ap, ℕ, suc, ◌<◌, Bool, true, false, cond, eqb, ℤ, pos, neg_ℤ, ◌+ℤ◌, ◌-ℤ◌, ◌*ℤ◌, ◌≤ℤ◌, arith, refl, sym, subst, List, [], ◌∷◌, All, length, Option, Some, None, suc-le-suc, get_or}
 use Rattle.std.proofs.lemmas.Int.{ints}
 use Rattle.std.proofs.lemmas.List.Elements.{All-head, All-tail}
 use Rattle.grid_net.specs.declared.part.Resistor.{Resistor}
@@ -8,7 +8,7 @@ use Rattle.grid_net.specs.Network.{Network, IsNetwork, IsResistorOf, taken_by, o
 use Rattle.grid_net.specs.Solution.{IsSolution}
 use Rattle.grid_net.specs.Certificate.{HighHolds, LowHolds}
 use Rattle.grid_net.specs.Mirror.{turned, mirror}
-use Rattle.grid_net.specs.Laws.Mirror.{mirror_network, no_pad_in, no_pad_out, pad_in, pad_out, load_in, high_in, outflow_turned}
+use Rattle.grid_net.specs.Laws.Mirror.{mirror_network, no_pad_out, pad_out, load_in, high_in, outflow_turned}
 use Rattle.bound_check.specs.Certified.{least_current, greatest_current}
 use Rattle.bound_check.specs.OneSided.{MeetsLaws, PadsAtMost, PadsAtLeast}
 use Rattle.rounding.specs.Laws.{times_le, times_le_out, times_swap, times_difference, times_sum, times_neg, floor_is, greatest_of}

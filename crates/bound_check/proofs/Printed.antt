@@ -1,8 +1,8 @@
 -- Bounds that are rounded outward are bounds, and little wider.
-use Rattle.std.proofs.Common.{◌≡◌, ℕ, ◌<◌, ◌≤◌, ◌*◌, ◌+◌, ◌^◌, ℤ, pos, ◌+ℤ◌, ◌-ℤ◌, ◌*ℤ◌, ◌≤ℤ◌, ◌<ℤ◌, arith, List, length, get_or}
+use Rattle.std.proofs.Common.{ℕ, ◌≤◌, ℤ, pos, ◌+ℤ◌, ◌-ℤ◌, ◌*ℤ◌, ◌≤ℤ◌, ◌<ℤ◌, arith}
 use Rattle.std.proofs.lemmas.Int.{ints}
 use Rattle.rounding.specs.Rounding.{floor_div, ceil_div}
-use Rattle.rounding.specs.Laws.{times_le, times_next, times_last, times_difference, times_sum, floor_is, ceiling_is}
+use Rattle.rounding.specs.Laws.{times_le, times_next, times_last, times_difference, floor_is, ceiling_is}
 use Rattle.bound_check.specs.Certified.{LiesWithin}
 
 -- What lies between two numbers lies between the multiples of a unit around them.

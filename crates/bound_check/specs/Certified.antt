@@ -3,7 +3,6 @@ use Rattle.std.specs.Prelude.{◌≡◌, ℕ, ◌^◌, ℤ, pos, ◌*ℤ◌, ◌
 use Rattle.rounding.specs.Rounding.{floor_div, ceil_div}
 use Rattle.grid_net.specs.declared.part.Resistor.{Resistor}
 use Rattle.grid_net.specs.Network.{Network, entry_of}
-use Rattle.grid_net.specs.Limits.{IsBuilt}
 use Rattle.grid_net.specs.Certificate.{IsCertificate, IsTight}
 
 -- A network, its high list and its low list, and in how many sweeps they were made.

@@ -3,3 +3,5 @@ pub mod Loose
 pub mod Certified
 pub mod Example
 pub mod OneSided
+pub mod inside
+pub mod Laws

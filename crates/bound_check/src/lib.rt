@@ -5,6 +5,7 @@
 //! a refusal names (`Failing`, `Loose`) and what is printed (`Certified`).
 #![tactic(auto)]
 
+mod by_resistor;
 mod certificate;
 mod certified;
 mod fails;
@@ -14,7 +15,8 @@ mod sums;
 mod tight;
 mod values;
 
-pub use certificate::is_certificate;
+pub use by_resistor::flows_from_ends;
+pub use certificate::{is_certificate, is_certificate_in};
 pub use certified::{Certified, NANOAMPERE, NANOVOLT};
 pub use fails::{Fails, Side};
 pub use laws::{

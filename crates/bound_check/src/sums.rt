@@ -54,7 +54,7 @@ pub fn outflow_of(
 }
 
 /// The test of the two sums of a node that is no pad, high before low.
-fn total_failure(node: u32, high: i128, low: i128) -> Option<Fails>
+pub fn total_failure(node: u32, high: i128, low: i128) -> Option<Fails>
     ensures { result ≡ or_else (unless (int_le (pos 1) high) node High high)
         (unless (int_le low (negsuc 0)) node Low low) }
 {
@@ -72,7 +72,7 @@ fn entry_failure(node: u32, high: i128, low: i128) -> Option<Fails>
 }
 
 /// The test of the entries of a pad's node against its voltage.
-fn pad_failure(node: u32, volts: i128, high: i128, low: i128) -> Option<Fails>
+pub fn pad_failure(node: u32, volts: i128, high: i128, low: i128) -> Option<Fails>
     requires volts { IsInLimit greatest_voltage volts }
     requires high { IsInLimit value_limit high }
     requires low { IsInLimit value_limit low }

@@ -14,7 +14,7 @@ no_short i j h = elim h [
   | inr s ↦ (let l = s.1 in omega arith)
 ]
 
-one_node : (k i j : ℕ) → IsChain [] k i j → i ≡ j
+pub one_node : (k i j : ℕ) → IsChain [] k i j → i ≡ j
 one_node zero i j e = e
 one_node (suc k) i j chain = absurd (no_short i chain.0 chain.1)
 

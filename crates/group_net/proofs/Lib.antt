@@ -5,3 +5,4 @@ pub mod Refusals
 pub mod Alone
 pub mod Same
 pub mod Conflicts
+pub mod Unshorted

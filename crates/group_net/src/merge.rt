@@ -46,7 +46,8 @@ impl From<AllocError> for GroupError {
 /// The network of the groups of nodes that shorts join. Resistors keep their order, pads stand in the order of nodes,
 /// and the loads of all nodes of a group are added.
 ///
-/// Each end of a short is a node. It takes hardly more time than there are nodes, resistors and shorts.
+/// Each end of a short is a node. It takes hardly more time than there are nodes, resistors and shorts. Where there are
+/// no shorts the network is handed on as it stands, and is not built again.
 pub fn merge_net(alloc: Global, net: Net, shorts: &[(u32, u32)]) -> Result<GroupNet, GroupError>
     requires { AreNodes net.nodes shorts.now }
     ensures groups { IfOk result (λ merged. AreGroups net.nodes shorts.now merged.groups.group merged.groups.firsts) }
@@ -57,6 +58,9 @@ pub fn merge_net(alloc: Global, net: Net, shorts: &[(u32, u32)]) -> Result<Group
     ensures built { IsBuilt net }
 {
     let groups = group_nodes(alloc, net.nodes(), shorts)?;
+    if shorts.is_empty() {
+        return Ok(GroupNet { net, groups });
+    }
     let Parts {
         mut resistors,
         mut pads,

@@ -7,7 +7,7 @@ ghost use Rattle.judging.specs.inside.Lists.{JudgesLists};
 
 use crate::refused::certificate_refused;
 use answers::Answer;
-use bound_check::{Fails, is_certificate};
+use bound_check::{Fails, is_certificate_in};
 use certificate_file::{read_certificate, texts_have_one_certificate};
 use outside::Name;
 use short_merge::Merged;
@@ -32,7 +32,12 @@ pub(crate) fn judge_lists(
         Ok(lists) => lists,
         Err(error) => return certificate_refused(alloc, certificate, error),
     };
-    match is_certificate(&merged.net, lists.high.as_slice(), lists.low.as_slice()) {
+    match is_certificate_in(
+        alloc,
+        &merged.net,
+        lists.high.as_slice(),
+        lists.low.as_slice(),
+    ) {
         Ok(()) => Answer::Certified(nodes),
         Err(fails) => not_certified(alloc, names, fails),
     }

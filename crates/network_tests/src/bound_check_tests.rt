@@ -1,4 +1,4 @@
-use bound_check::{Certified, Fails, Side, is_certificate, is_tight};
+use bound_check::{Certified, Fails, Side, is_certificate, is_certificate_in, is_tight};
 use grid_net::{Load, Net, Pad, Resistor};
 use std::process::Abort;
 
@@ -9,10 +9,18 @@ const MILLI: i64 = 1_000_000_000_000;
 /// An ohm, in nano-ohms.
 const OHM: i128 = 1_000_000_000;
 
-fn answer(rt: &impl Abort, net: &Net, high: &[i128], low: &[i128]) -> Result<(), Fails> {
+/// The answer of the test, which is the same with memory for the sums and without.
+fn answer(
+    rt: &(impl AllocGlobal + Abort),
+    net: &Net,
+    high: &[i128],
+    low: &[i128],
+) -> Result<(), Fails> {
     assert!(rt; high.len() == net.nodes() as usize);
     assert!(rt; low.len() == net.nodes() as usize);
-    is_certificate(net, high, low)
+    let without = is_certificate(net, high, low);
+    assert!(rt; is_certificate_in(rt.alloc(), net, high, low) == without);
+    without
 }
 
 fn refusal(node: u32, side: Side, found: i128) -> Result<(), Fails> {

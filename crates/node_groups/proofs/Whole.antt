@@ -1,5 +1,5 @@
 -- The groups of all nodes, from the numbers and the steps.
-use Rattle.std.proofs.Common.{◌≡◌, ℕ, ◌<◌, arith, sym, ap, subst, ◌∙◌, List, ◌++◌, length, get_or, take, drop}
+use Rattle.std.proofs.Common.{◌≡◌, ℕ, ◌+◌, ◌<◌, arith, sym, ap, subst, ◌∙◌, List, [], ◌++◌, length, get_or, take, drop}
 use Rattle.std.specs.List.{range_with_len}
 use Rattle.std.proofs.Math.Seq.{take-append_seam}
 use Rattle.std.proofs.lemmas.List.FromFn.{length-range_with_len, get_or-range_with_len}
@@ -20,6 +20,30 @@ alone_back n i l = omega (arith, own n i l)
 
 pub alone_by_shorts : (n : ℕ) (shorts : List (ℕ × ℕ)) → IsByShorts shorts (range_with_len 0 n)
 alone_by_shorts n shorts i l = subst (λ (x : ℕ). AreJoined shorts i x) (sym (own n i l)) (joined_self shorts i)
+
+-- Without shorts each node is a group by itself.
+pub own_groups_are : (n : ℕ) → AreGroups n [] (range_with_len 0 n) (range_with_len 0 n)
+own_groups_are n = record {
+  one_a_node = length-range_with_len 0 n;
+  joined = λ i j l m. (
+    λ same. subst (λ (x : ℕ). AreJoined [] i x) (sym (own' i l) ∙ same ∙ own' j m) (joined_self [] i),
+    λ way. joined_label (λ k. get_or nodes k 0) [] (λ k d l. absurd (omega arith)) i j way,
+  );
+  each_group = All-from_get_or (λ g. g < length nodes) nodes 0 (λ i l. omega (arith, l, own n i l));
+  each_first = All-from_get_or (λ first. first < n) nodes 0 (λ i l. omega (arith, l, own n i l, length-range_with_len 0 n));
+  of_its_group = λ g l. twice g l;
+  first = λ i l. omega (arith, twice i (omega (arith, l, length-range_with_len 0 n)));
+  in_order = λ k l. omega (arith, own n k (omega arith), own n (k + 1) l);
+}
+  where
+    nodes : List ℕ
+    nodes = range_with_len 0 n
+
+    own' : (i : ℕ) → i < n → get_or (range_with_len 0 n) i 0 ≡ i
+    own' i l = own n i (omega (arith, l, length-range_with_len 0 n))
+
+    twice : (i : ℕ) → i < length (range_with_len 0 n) → get_or (range_with_len 0 n) (get_or (range_with_len 0 n) i 0) 0 ≡ i
+    twice i l = ap (λ (x : ℕ). get_or (range_with_len 0 n) x 0) (own n i l) ∙ own n i l
 
 -- ---- all nodes
 pub groups_of : (n : ℕ) (shorts : List (ℕ × ℕ)) (parents group firsts : List ℕ) → length parents ≡ n → LeadsBack parents

@@ -1,6 +1,6 @@
 //! The groups of nodes.
 ghost use Rattle.std.specs.List.{range_with_len};
-ghost use Rattle.std.specs.Prelude.{◌≡◌, ◌<◌, ◌^◌, length, All, IfOk};
+ghost use Rattle.std.specs.Prelude.{◌≡◌, ◌<◌, ◌^◌, [], length, All, IfOk};
 ghost use Rattle.node_groups.specs.Groups.{AreGroups};
 ghost use Rattle.node_groups.specs.inside.Forest.{LeadsBack, AreNumbered};
 
@@ -51,6 +51,18 @@ fn number(alloc: Global, parents: &[u32]) -> Result<Groups, AllocError>
     })
 }
 
+// Each node as a group by itself.
+fn own_groups(alloc: Global, nodes: u32) -> Result<Groups, AllocError>
+    ensures { IfOk result (λ groups. AreGroups nodes [] groups.group groups.firsts) }
+{
+    let group = alone(alloc, nodes)?;
+    let firsts = alone(alloc, nodes)?;
+    Ok(Groups {
+        group: Entries::new(group),
+        firsts: Entries::new(firsts),
+    })
+}
+
 /// The groups of the nodes `0 .. nodes - 1`. Two nodes have one group exactly where a chain of shorts joins them.
 ///
 /// A short is given by its two ends; any number of shorts may join the same nodes, and one may join a node to itself.
@@ -60,6 +72,9 @@ pub fn group_nodes(alloc: Global, nodes: u32, shorts: &[(u32, u32)]) -> Result<G
     requires { All (λ s. (s.0 < nodes) × (s.1 < nodes)) shorts.now }
     ensures { IfOk result (λ groups. AreGroups nodes shorts.now groups.group groups.firsts) }
 {
+    if shorts.is_empty() {
+        return own_groups(alloc, nodes);
+    }
     let mut parents = alone(alloc, nodes)?;
     join_all(&mut parents, shorts);
     number(alloc, &parents)

@@ -1,4 +1,4 @@
-use Rattle.std.proofs.Common.{pos, get_or, ◌-ℤ◌, ◌<◌, arith, to_z-of_z, SFits, rules, ◌∙◌, length}
+use Rattle.std.proofs.Common.{pos, get_or, ◌-ℤ◌, arith, to_z-of_z, SFits, rules, ◌∙◌}
 use mir.Syntax.{w128}
 use Rattle.std.proofs.lemmas.Int.{ints}
 use Rattle.bound_check.proofs.certified.current_between.Goals as goal

@@ -1,4 +1,4 @@
-use Rattle.std.proofs.Common.{◌∙◌, ap, ◌+ℤ◌, arith, List, to_z-of_z, SFits, rules}
+use Rattle.std.proofs.Common.{◌∙◌, ap, ◌+ℤ◌, arith, List, SFits, rules}
 use mir.Syntax.{w64, w128}
 use Rattle.std.proofs.lemmas.Int.{ints}
 use Rattle.rounding.specs.Rounding.{floor_div, ceil_div}

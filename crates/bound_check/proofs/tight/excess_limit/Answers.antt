@@ -1,4 +1,4 @@
-use Rattle.std.proofs.Common.{◌≡◌, ◌∙◌, ◌*◌, ◌≤◌, ◌+◌, ◌^◌, pos, ◌*ℤ◌, ◌+ℤ◌, sym, ap, arith, to_z-of_z, SFits, length}
+use Rattle.std.proofs.Common.{◌≡◌, ◌∙◌, ◌*◌, ◌≤◌, ◌^◌, pos, ◌*ℤ◌, ◌+ℤ◌, sym, ap, arith, SFits, length}
 use mir.Syntax.{w128}
 use Rattle.std.proofs.lemmas.Int.{ints}
 use Rattle.grid_net.specs.Network.{degree}

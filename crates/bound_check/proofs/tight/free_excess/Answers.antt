@@ -1,4 +1,4 @@
-use Rattle.std.proofs.Common.{◌-ℤ◌, ◌∙◌, arith, pos, negsuc, to_z-of_z, SFits, rules}
+use Rattle.std.proofs.Common.{◌-ℤ◌, arith, pos, negsuc, to_z-of_z, SFits, rules}
 use mir.Syntax.{w128}
 use Rattle.std.proofs.lemmas.Int.{ints, clamps}
 use Rattle.bound_check.proofs.tight.free_excess.Goals as goal

@@ -1,10 +1,10 @@
-use Rattle.std.proofs.Common.{◌≡◌, ◌∙◌, ap, sym, subst, refl, arith, ℕ, ℤ, Option, Some, None, pos, cond, to_z-of_z, SFits, rules}
+use Rattle.std.proofs.Common.{◌∙◌, ap, sym, subst, arith, ℕ, ℤ, Option, Some, None, cond, to_z-of_z, SFits, rules}
 use mir.Syntax.{w128}
 use lib.Signed.{le_z}
 use Rattle.std.proofs.lemmas.Int.{ints}
 use Rattle.grid_net.specs.declared.part.Pad.{Pad}
 use Rattle.grid_net.specs.Limits.{IsInLimit, greatest_voltage}
-use Rattle.grid_net.specs.Network.{entry_of, pad_at}
+use Rattle.grid_net.specs.Network.{entry_of}
 use Rattle.grid_net.specs.Laws.Pads.{first_is_of_list}
 use Rattle.bound_check.specs.Loose.{excess, greatest_excess}
 use Rattle.bound_check.proofs.tight.loose_node.Goals as goal

@@ -17,6 +17,7 @@ use Rattle.group_net.specs.inside.Told.{IsLeft, AsTold}
 use Rattle.node_groups.specs.Laws.{groups_at_most}
 use Rattle.group_net.proofs.Limits.{ranges_in_order, keeps_limits, agree_by_group}
 use Rattle.group_net.proofs.Refusals.{what_is_left, refusal_told}
+use Rattle.group_net.proofs.Unshorted.{no_shorts, agree_unshorted, network_unshorted}
 use Rattle.group_net.proofs.merge.merge_net.Goals as goal
 
 -- The lists as the code has them are those of the groups.
@@ -100,6 +101,18 @@ module _ (net : Network) (shorts : List (ℕ × ℕ)) (group firsts : List ℕ) 
       refusal_told net shorts group firsts (map (grouped_resistor group) net.resistors) (grouped_loads net group) e told
       t.groups (keeps_limits net shorts group firsts t.built t.groups)
       (from_code (λ n a b c. BuildFails n a b c e) fails) as_told
+
+pub returns-then-is_empty-clause-network : goal.returns-then-is_empty-clause-network
+returns-then-is_empty-clause-network c =
+    network_unshorted c.args.net c.args.shorts.now c.in_ok-groups.groups.group c.in_ok-groups.groups.firsts c.nodes.ensures.built
+    (no_shorts c.args.shorts.now (sym c.is_empty.ensures ∙ c.if-is_empty.true))
+    (subst (λ n. AreGroups n c.args.shorts.now c.in_ok-groups.groups.group c.in_ok-groups.groups.firsts) c.nodes.ensures.nodes
+    c.in_ok-groups.ensures)
+
+pub returns-then-is_empty-clause-agree : goal.returns-then-is_empty-clause-agree
+returns-then-is_empty-clause-agree c ok =
+    agree_unshorted c.args.net c.args.shorts.now c.nodes.ensures.built
+    (no_shorts c.args.shorts.now (sym c.is_empty.ensures ∙ c.if-is_empty.true))
 
 pub overflow_cast-firsts : goal.overflow_cast-firsts
 overflow_cast-firsts c =

@@ -2,7 +2,13 @@ use Rattle.std.proofs.Common.{◌≡◌, arith, subst, ◌∙◌, length}
 use Rattle.node_groups.specs.Laws.{at_most_below}
 use Rattle.short_merge.specs.inside.Kept.{AreKept}
 use Rattle.short_merge.proofs.Kept.{kept_more, all_kept}
+use Rattle.short_merge.proofs.Whole.{all_names}
 use Rattle.short_merge.proofs.names.names_of_groups.Goals as goal
+
+pub returns-then-firsts-len : goal.returns-then-firsts-len
+returns-then-firsts-len c =
+    let size : length c.args.firsts.now ≡ length c.args.names.items = omega (arith, c.len.ensures, c.if-firsts-len.true, c.args.names.ok.0) in
+    all_names c.args.names.items c.args.firsts.now c.requires.rising c.requires.nodes size
 
 pub swap-requires-clause-i_in_bounds : goal.swap-requires-clause-i_in_bounds
 swap-requires-clause-i_in_bounds c =
